@@ -1,0 +1,115 @@
+-- What is known of a bundle that reading accepts and of fields that writing accepts, and the facts that make each accept.
+-- Assumes nothing.
+use mathlib.Core.Path.{_≡_, refl, sym, ap, _∙_}
+use mathlib.Core.Bool.{Bool, true, false, not, _&&_, and-eq-true-iff}
+use mathlib.Core.List.{List, [], _∷_, _++_}
+use Prim.Native.Nat.{ℕ, _≤_, _<_, _^_}
+use borrow.Author.Tests.{eqb-true, eq-eqb, ne-eqb, not-false}
+use lib.Dec.{eqb}
+use lib.ListN.{length, getD}
+use Rattle.octets.specs.Octets.{part}
+use Rattle.refusal.specs.Outcome.{Outcome, refused, done, unless, after}
+use Rattle.refusal.proofs.Reasons.{Clear, done-clear, clear-done, append-clear, clear-append, refused-first, done-first}
+use Rattle.config.specs.declared.Config.{Config}
+use Rattle.config.specs.Config.{good}
+use Rattle.bundle.specs.declared.Header.{Header}
+use Rattle.bundle.specs.Bundle.{size, payloadStart, payloadSize, bundleOf, dayOf, headerOf, headerReasons, readReasons, read, payload, writeReasons, write}
+
+-- a test that must not fail, passed
+passed : {b : Bool} → b ≡ true → not b ≡ false
+passed e = rw e
+
+pub record Readable (w : Config) (bundle : List ℕ) : Type 0 where
+  pub configured : good w ≡ true
+  pub long : length bundle ≡ size
+  pub sixth : getD bundle 6 0 ≡ 0
+  pub seventh : getD bundle 7 0 ≡ 0
+  pub today : dayOf bundle ≡ w .day
+  pub clear : Clear (headerReasons w (headerOf bundle))
+
+pub accepted-readable : (w : Config) (bundle : List ℕ) (h : Header) → read w bundle ≡ done h → Readable w bundle × (headerOf bundle ≡ h)
+unfolding read readReasons
+accepted-readable w bundle h e =
+    let (clear, same) = done-clear (readReasons w bundle) (headerOf bundle) h e in
+    let reserved = and-eq-true-iff _ _ .0 (not-false _ (clear .1 .1 .0)) in (
+      record {
+        configured = not-false _ (clear .0);
+        long = eqb-true _ _ (not-false _ (clear .1 .0));
+        sixth = eqb-true _ _ (reserved .0);
+        seventh = eqb-true _ _ (reserved .1);
+        today = eqb-true _ _ (not-false _ (clear .1 .1 .1 .0));
+        clear = clear .1 .1 .1 .1;
+      },
+      same,
+    )
+
+pub readable-accepted : (w : Config) (bundle : List ℕ) → Readable w bundle → read w bundle ≡ done (headerOf bundle)
+unfolding read readReasons
+readable-accepted w bundle r =
+    clear-done (readReasons w bundle) (headerOf bundle) (
+      passed (r .configured),
+      (
+        passed (eq-eqb _ _ (r .long)),
+        (
+          passed (and-eq-true-iff _ _ .1 (eq-eqb _ _ (r .sixth), eq-eqb _ _ (r .seventh))),
+          (passed (eq-eqb _ _ (r .today)), r .clear),
+        ),
+      ),
+    )
+
+-- the payload of an accepted bundle is its last 16 bytes
+pub accepted-payload : (w : Config) (bundle : List ℕ) (h : Header) → read w bundle ≡ done h → payload w bundle ≡ part payloadStart payloadSize bundle
+unfolding payload
+accepted-payload w bundle h e = rw e
+
+pub refused-payload : (w : Config) (bundle : List ℕ) (number : ℕ) → read w bundle ≡ refused number → payload w bundle ≡ []
+unfolding payload
+refused-payload w bundle number e = rw e
+
+pub record Writable (w : Config) (h : Header) (payload out : List ℕ) : Type 0 where
+  pub configured : good w ≡ true
+  pub clear : Clear (headerReasons w h)
+  pub whole : length payload ≡ payloadSize
+  pub room : length out ≡ size
+
+pub written-writable : (w : Config) (h : Header) (payload out bytes : List ℕ) → write w h payload out ≡ done bytes
+    → Writable w h payload out × (bundleOf (w .day) h payload ≡ bytes)
+unfolding write writeReasons
+written-writable w h payload out bytes e =
+    let (clear, same) = done-clear (writeReasons w h payload out) (bundleOf (w .day) h payload) bytes e in
+    let (header, lengths) = append-clear (headerReasons w h) _ (clear .1) in (
+      record {
+        configured = not-false _ (clear .0);
+        clear = header;
+        whole = eqb-true _ _ (not-false _ (lengths .0));
+        room = eqb-true _ _ (not-false _ (lengths .1 .0));
+      },
+      same,
+    )
+
+pub writable-written : (w : Config) (h : Header) (payload out : List ℕ) → Writable w h payload out → write w h payload out ≡ done (bundleOf (w .day) h payload)
+unfolding write writeReasons
+writable-written w h payload out r =
+    clear-done (writeReasons w h payload out) (bundleOf (w .day) h payload) (
+      passed (r .configured),
+      clear-append (headerReasons w h) _ (r .clear)
+          (passed (eq-eqb _ _ (r .whole)), (passed (eq-eqb _ _ (r .room)), tt)),
+    )
+
+-- why writing refuses, in the order of its checks
+module _ (w : Config) (h : Header) (payload out : List ℕ) where
+  pub write-unconfigured : good w ≡ false → write w h payload out ≡ refused 1
+  unfolding write writeReasons unless
+  write-unconfigured e = rw e
+
+  pub write-header : (number : ℕ) → good w ≡ true → unless {A = Unit} (headerReasons w h) tt ≡ refused number → write w h payload out ≡ refused number
+  unfolding write writeReasons unless
+  write-header number g e = rw g (refused-first _ _ _ (headerReasons w h) number e)
+
+  pub write-payload : good w ≡ true → unless {A = Unit} (headerReasons w h) tt ≡ done tt → (length payload ≡ payloadSize → ⊥) → write w h payload out ≡ refused 9
+  unfolding write writeReasons unless
+  write-payload g e l = rw g (done-first _ _ _ (headerReasons w h) tt e ∙ rw (ne-eqb _ _ l))
+
+  pub write-out : good w ≡ true → unless {A = Unit} (headerReasons w h) tt ≡ done tt → length payload ≡ payloadSize → (length out ≡ size → ⊥) → write w h payload out ≡ refused 10
+  unfolding write writeReasons unless
+  write-out g e l r = rw g (done-first _ _ _ (headerReasons w h) tt e ∙ rw (eq-eqb _ _ l, ne-eqb _ _ r))

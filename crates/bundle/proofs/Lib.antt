@@ -1,0 +1,4 @@
+-- Laws of the bundle that belong to no one function.
+pub mod Fields
+pub mod Accepted
+pub mod RoundTrip

@@ -1,0 +1,3 @@
+-- What the contracts of this crate cite, and what is claimed of it.
+pub mod Bundle
+pub mod RoundTrip

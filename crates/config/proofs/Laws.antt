@@ -1,0 +1,86 @@
+-- What `good` says, and what of the quorum the protocol's argument rests on. Callers go by these laws and not by the formulas,
+-- so that another quorum, chosen within the same bounds, proves them anew here alone.
+-- Assumes nothing.
+use mathlib.Core.Path.{_≡_, _∙_, refl, ap, subst}
+use mathlib.Core.Bool.{Bool, true, false, _&&_, cond, true≢false, false≢true}
+use Prim.Native.Nat.{ℕ, _+_, _-_, _*_, _/_, _^_, _≤_, _<_}
+use native.Mathlib.Nat.{not-le-of-lt}
+use native.Mathlib.Omega.{arith}
+use lib.Dec.{leb, ltb}
+use lib.Pow.{ones-split, ones-lt, high, le-ones, lt-of-le-ones}
+use borrow.Author.Tests.{lt-ltb, le-leb, leb-true, ltb-true}
+use Rattle.config.specs.declared.Config.{Config}
+use Rattle.signers.specs.Signers.{member, within}
+use Rattle.signers.proofs.Members.{lt-within, within-lt, member-ones}
+use Rattle.config.specs.Config.{good, quorum, mask}
+
+-- The four bounds of a good configuration.
+pub record Good (w : Config) : Type 0 where
+  pub some : 1 ≤ w .n
+  pub most : w .n ≤ 64
+  pub resilient : 3 * w .t + 2 * w .d < w .n
+  pub known : w .own < w .n
+
+and-true : (a b : Bool) → (a && b) ≡ true → (a ≡ true) × (b ≡ true)
+and-true true b e = (refl, e)
+and-true false b e = absurd (false≢true e)
+
+pub good-says : (w : Config) → good w ≡ true → Good w
+unfolding good
+good-says w e =
+    let last = and-true (leb 1 (w .n) && leb (w .n) 64 && ltb (3 * w .t + 2 * w .d) (w .n)) (ltb (w .own) (w .n)) e in
+    let third = and-true (leb 1 (w .n) && leb (w .n) 64) (ltb (3 * w .t + 2 * w .d) (w .n)) (last .0) in
+    let first = and-true (leb 1 (w .n)) (leb (w .n) 64) (third .0) in
+    record {
+      some = leb-true _ _ (first .0);
+      most = leb-true _ _ (first .1);
+      resilient = ltb-true _ _ (third .1);
+      known = ltb-true _ _ (last .1);
+    }
+
+pub says-good : (w : Config) → Good w → good w ≡ true
+unfolding good
+says-good w g = simp (le-leb _ _ (g .some), le-leb _ _ (g .most), lt-ltb _ _ (g .resilient), lt-ltb _ _ (g .known))
+
+-- a configuration that breaks a bound is not good
+pub not-good : (w : Config) → (Good w → ⊥) → good w ≡ false
+not-good w h = go (good w) refl
+  where
+    go : (b : Bool) → good w ≡ b → good w ≡ false
+    go true e = absurd (h (good-says w e))
+    go false e = e
+
+-- k ones shifted out of j + k leave j ones
+ones-shift : (j k : ℕ) → (2 ^ (j + k) - 1) / 2 ^ k ≡ 2 ^ j - 1
+ones-shift j k = ap (λ (x : ℕ). x / 2 ^ k) (ones-split j k) ∙ high (2 ^ j - 1) k (ones-lt k)
+
+pub mask-shift : (n : ℕ) → n ≤ 64 → (2 ^ 64 - 1) / 2 ^ (64 - n) ≡ 2 ^ n - 1
+mask-shift n h = let e : n + (64 - n) ≡ 64 = omega arith in rw e at (ones-shift n (64 - n))
+
+-- a set is within the nodes where it is at most the mask, and only there
+pub within-mask : (w : Config) (set : ℕ) → good w ≡ true → set ≤ mask w → within set (w .n) ≡ true
+unfolding mask
+within-mask w set e h = lt-within set (w .n) (lt-of-le-ones (w .n) (rw e at h))
+
+pub past-mask : (w : Config) (set : ℕ) → good w ≡ true → mask w < set → within set (w .n) ≡ false
+unfolding mask
+past-mask w set e h = go (within set (w .n)) refl
+  where
+    go : (b : Bool) → within set (w .n) ≡ b → within set (w .n) ≡ false
+    go true q = absurd (not-le-of-lt (rw e at h) (le-ones (w .n) (within-lt set (w .n) q)))
+    go false q = q
+
+-- the members of the mask are the nodes 0 to n - 1
+pub mask-members : (w : Config) (node : ℕ) → good w ≡ true → member (mask w) node ≡ ltb node (w .n)
+unfolding mask
+mask-members w node e = rw e (member-ones (w .n) node)
+
+-- two quorums share more than t nodes: twice a quorum is more than n + t
+pub quorum-intersects : (w : Config) → good w ≡ true → w .n + w .t < quorum w + quorum w
+unfolding quorum
+quorum-intersects w e = rw e (omega arith)
+
+-- the correct nodes that every sending reaches are a quorum by themselves: q is at most n - t - d
+pub quorum-reachable : (w : Config) → good w ≡ true → quorum w + w .t + w .d ≤ w .n
+unfolding quorum
+quorum-reachable w e = let g = good-says w e in rw e (omega arith)

@@ -1,0 +1,3 @@
+-- Laws of the configuration that belong to no one function.
+pub mod Laws
+pub mod Tables

@@ -1,0 +1,41 @@
+-- Document 01, "Table": the ten tables listed under the quorum, each with own number 0, and what is claimed of each of them. It is
+-- proved in proofs/Tables.antt.
+-- Assumes nothing.
+use mathlib.Core.Path.{_≡_}
+use mathlib.Core.Bool.{Bool, true, false}
+use mathlib.Core.List.{List, [], _∷_, List·Memᴰ}
+use Prim.Native.Nat.{ℕ}
+use Rattle.config.specs.declared.Config.{Config}
+use Rattle.config.specs.Config.{good, quorum}
+
+-- a row of the list: n, t and d, whether the table is good, and its quorum, 0 where it is bad
+pub record Row : Type 0 where
+  pub n : ℕ
+  pub t : ℕ
+  pub d : ℕ
+  pub sound : Bool
+  pub q : ℕ
+
+abbrev row : ℕ → ℕ → ℕ → Bool → ℕ → Row
+row n t d sound q = record { n = n; t = t; d = d; sound = sound; q = q }
+
+unfoldable pub tables : List Row
+tables =
+    row 1 0 0 true 1
+    ∷ row 2 0 0 true 2
+    ∷ row 4 1 0 true 3
+    ∷ row 6 1 1 true 4
+    ∷ row 64 21 0 true 43
+    ∷ row 64 0 31 true 33
+    ∷ row 0 0 0 false 0
+    ∷ row 5 1 1 false 0
+    ∷ row 64 0 32 false 0
+    ∷ row 65 0 0 false 0
+    ∷ []
+
+-- a row as a table, on any day
+abbrev pub configOf : Row → ℕ → Config
+configOf r day = record { n = r .n; t = r .t; d = r .d; own = 0; day = day }
+
+abbrev pub TablesHold : Type 0
+TablesHold = (r : Row) (day : ℕ) → List·Memᴰ r tables → (good (configOf r day) ≡ r .sound) × (quorum (configOf r day) ≡ r .q)

@@ -1,0 +1,4 @@
+-- Laws of this crate that belong to no one function.
+pub mod Numbers
+pub mod Joined
+pub mod Listed

@@ -1,0 +1,72 @@
+// Eight-byte words in slices of bytes, high byte first.
+//
+// A word is read by shifts and written low byte first from its reverse: in these shapes the compiler
+// joins the eight bytes into one load or store.
+ghost use mathlib.Core.Path.{_≡_};
+ghost use mathlib.Core.List.{_++_, reverse};
+ghost use Prim.Native.Nat.{_+_, _≤_, _<_};
+ghost use lib.ListN.{length, take, drop};
+ghost use Rattle.octets.specs.Octets.{wordOf, bytesOf, filled};
+
+// The number that eight bytes write, or 0 for a slice of another length.
+pub fn word(bytes: &[u8]) -> u64
+    ensures { λ r. ⌜ r ≡ wordOf (now (bytes .entry)) ⌝ }
+{
+    if bytes.len() != 8 {
+        return 0;
+    }
+    (wide(bytes[0]) << 56)
+        | ((wide(bytes[1]) << 48)
+            | ((wide(bytes[2]) << 40)
+                | ((wide(bytes[3]) << 32)
+                    | ((wide(bytes[4]) << 24)
+                        | ((wide(bytes[5]) << 16) | ((wide(bytes[6]) << 8) | wide(bytes[7])))))))
+}
+
+// Writes four words over a slice of 32 bytes. A slice of another length stays as it is.
+pub fn fill(bytes: &mut [u8], a: u64, b: u64, c: u64, d: u64)
+    ensures { λ _. ⌜ now (bytes .exit) ≡ filled (now (bytes .entry)) a b c d ⌝ }
+{
+    if bytes.len() != 32 {
+        return;
+    }
+    put(bytes, 0, a);
+    put(bytes, 8, b);
+    put(bytes, 16, c);
+    put(bytes, 24, d);
+}
+
+fn put(bytes: &mut [u8], at: usize, x: u64)
+    requires { ⌜ at + 8 ≤ length (now bytes) ⌝ }
+    ensures { λ _. ⌜ now (bytes .exit) ≡ take at (now (bytes .entry)) ++ (bytesOf 8 x ++ drop (at + 8) (now (bytes .entry))) ⌝ }
+{
+    let y = reversed(x);
+    bytes[at] = (y % 256) as u8;
+    bytes[at + 1] = (y / 0x100 % 256) as u8;
+    bytes[at + 2] = (y / 0x1_0000 % 256) as u8;
+    bytes[at + 3] = (y / 0x100_0000 % 256) as u8;
+    bytes[at + 4] = (y / 0x1_0000_0000 % 256) as u8;
+    bytes[at + 5] = (y / 0x100_0000_0000 % 256) as u8;
+    bytes[at + 6] = (y / 0x1_0000_0000_0000 % 256) as u8;
+    bytes[at + 7] = (y / 0x100_0000_0000_0000 % 256) as u8;
+}
+
+// The same eight bytes in the other order.
+fn reversed(x: u64) -> u64
+    ensures { λ r. ⌜ bytesOf 8 r ≡ reverse (bytesOf 8 x) ⌝ }
+{
+    ((x % 256) << 56)
+        | ((x / 0x100 % 256) << 48
+            | ((x / 0x1_0000 % 256) << 40
+                | ((x / 0x100_0000 % 256) << 32
+                    | ((x / 0x1_0000_0000 % 256) << 24
+                        | ((x / 0x100_0000_0000 % 256) << 16
+                            | ((x / 0x1_0000_0000_0000 % 256) << 8
+                                | x / 0x100_0000_0000_0000 % 256))))))
+}
+
+fn wide(x: u8) -> u64
+    ensures { λ r. ⌜ r ≡ x ⌝ }
+{
+    x as u64
+}

@@ -1,0 +1,180 @@
+// Runs document 01's own examples and writes what the library answers; the file `stdout` holds what the
+// paper says. First the ten tables under the quorum, then the bundles of the play's steps, written and
+// read back, then each reason for which reading refuses.
+use bundle::Header;
+use bundle::Reading;
+use config::Config;
+use libc::STDOUT_FILENO;
+use refusal::Verdict;
+
+fn main() {
+    tables();
+    bundles();
+    refusals();
+}
+
+fn tables() {
+    text(b"units faults losses quorum\n");
+    table(1, 0, 0);
+    table(2, 0, 0);
+    table(4, 1, 0);
+    table(6, 1, 1);
+    table(64, 21, 0);
+    table(64, 0, 31);
+    table(0, 0, 0);
+    table(5, 1, 1);
+    table(64, 0, 32);
+    table(65, 0, 0);
+}
+
+fn table(n: u8, t: u8, d: u8) {
+    let config = Config {
+        n,
+        t,
+        d,
+        own: 0,
+        day: 7,
+    };
+    decimal(n as u64);
+    text(b" ");
+    decimal(t as u64);
+    text(b" ");
+    decimal(d as u64);
+    if config.good() {
+        text(b" ");
+        decimal(config.quorum() as u64);
+        text(b"\n");
+    } else {
+        text(b" bad\n");
+    }
+}
+
+// The play's table at one of its units.
+fn play(own: u8) -> Config {
+    Config {
+        n: 4,
+        t: 1,
+        d: 0,
+        own,
+        day: 7,
+    }
+}
+
+// The bundles of the play's steps, by step: unit, then the bytes, then what that unit reads in them.
+fn bundles() {
+    text(b"step unit bundle reading\n");
+    step(2, 1, 1);
+    step(3, 1, 1);
+    step(4, 2, 3);
+    step(5, 2, 7);
+    step(6, 3, 2);
+    step(7, 0, 7);
+}
+
+// The signers are put in afterwards: step 6 lacks its sender's signature, and `write` would refuse it.
+fn step(place: u64, unit: u8, signers: u8) {
+    let bytes = with_byte(15, signers);
+    decimal(place);
+    text(b" ");
+    decimal(unit as u64);
+    text(b" ");
+    hex(&bytes);
+    text(b" ");
+    reading(play(unit), &bytes);
+}
+
+// The bundle of step 2 with another byte at one place.
+fn with_byte(at: usize, value: u8) -> [u8; 32] {
+    let mut bytes = [0u8; 32];
+    bundle::write(
+        play(1),
+        header(0, 0, 1),
+        b"\x00\x01\x02\x03\x04\x05\x06\x07\x08\x09\x0a\x0b\x0c\x0d\x0e\x0f",
+        &mut bytes,
+    );
+    if at < 32 {
+        bytes[at] = value;
+    }
+    bytes
+}
+
+fn reading(config: Config, bytes: &[u8]) {
+    match bundle::read(config, bytes) {
+        Reading::Accepted(header) => {
+            decimal(header.sender as u64);
+            text(b" ");
+            decimal(header.seq as u64);
+            text(b" ");
+            io::print_hex(STDOUT_FILENO, header.signers, 16);
+            text(b" ");
+            hex(bundle::payload(config, bytes));
+            text(b"\n");
+        }
+        Reading::Refused(reason) => {
+            text(b"refused ");
+            decimal(refusal::number(reason) as u64);
+            text(b"\n");
+        }
+    }
+}
+
+fn refusals() {
+    text(b"reasons of reading\n");
+    reading(play(4), &with_byte(32, 0));
+    reading(play(1), b"not a bundle");
+    reading(play(1), &with_byte(6, 1));
+    reading(play(1), &with_byte(3, 8));
+    reading(play(1), &with_byte(4, 4));
+    reading(play(1), &with_byte(5, 16));
+    reading(play(1), &with_byte(15, 17));
+    reading(play(1), &with_byte(15, 2));
+    text(b"reasons of writing\n");
+    let payload = b"sixteen bytes ok";
+    let mut out = [0u8; 32];
+    let mut short = [0u8; 31];
+    writing(play(4), header(0, 0, 1), payload, &mut out);
+    writing(play(1), header(4, 0, 1), payload, &mut out);
+    writing(play(1), header(0, 16, 1), payload, &mut out);
+    writing(play(1), header(0, 0, 17), payload, &mut out);
+    writing(play(1), header(0, 0, 2), payload, &mut out);
+    writing(play(1), header(0, 0, 1), b"fifteen bytes..", &mut out);
+    writing(play(1), header(0, 0, 1), payload, &mut short);
+}
+
+fn header(sender: u8, seq: u8, signers: u64) -> Header {
+    Header {
+        sender,
+        seq,
+        signers,
+    }
+}
+
+fn writing(config: Config, header: Header, payload: &[u8], out: &mut [u8]) {
+    match bundle::write(config, header, payload, out) {
+        Verdict::Done => {
+            text(b"written\n");
+        }
+        Verdict::Refused(reason) => {
+            text(b"refused ");
+            decimal(refusal::number(reason) as u64);
+            text(b"\n");
+        }
+    }
+}
+
+fn text(bytes: &[u8]) {
+    io::write_all(STDOUT_FILENO, bytes);
+}
+
+fn decimal(x: u64) {
+    io::print_decimal(STDOUT_FILENO, x);
+}
+
+// A payload or a bundle in hexadecimal, word by word.
+fn hex(bytes: &[u8]) {
+    let mut at = 0;
+    while at + 8 <= bytes.len() {
+        io::print_hex(STDOUT_FILENO, octets::word(&bytes[at..at + 8]), 16);
+        at += 8;
+    }
+}

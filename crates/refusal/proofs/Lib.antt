@@ -1,0 +1,2 @@
+-- Laws of this crate that belong to no one function.
+pub mod Reasons

@@ -1,0 +1,89 @@
+-- A list of reasons, of which the first that applies counts: how a chain of checks goes through it, and what is known where
+-- none applied. Every call's refusals go by these laws.
+-- Assumes nothing.
+use mathlib.Core.Path.{_≡_, refl, sym, ap, subst, _∙_}
+use mathlib.Core.Bool.{Bool, true, false, cond}
+use mathlib.Core.List.{List, [], _∷_, _++_}
+use Prim.Native.Nat.{ℕ}
+use native.Mathlib.Omega.{arith}
+use Rattle.refusal.specs.Outcome.{Outcome, refused, done, Reason, _if_, unless, after, plain}
+
+-- none of the reasons applies
+abbrev pub Clear : List Reason → Type 0
+Clear [] = Unit
+Clear ((number if applies) ∷ rest) = (applies ≡ false) × Clear rest
+
+module _ {A : Type 0} where
+  -- a check that passes leaves the reasons after it
+  pub pass : (number : ℕ) (rest : List Reason) (work : A) {applies : Bool} → applies ≡ false → unless ((number if applies) ∷ rest) work ≡ unless rest work
+  unfolding unless
+  pass number rest work e = rw e
+
+  -- a check that fails decides the call
+  pub stop : (number : ℕ) (rest : List Reason) (work : A) {applies : Bool} → applies ≡ true → unless ((number if applies) ∷ rest) work ≡ refused number
+  unfolding unless
+  stop number rest work e = rw e
+
+  refused-not-done : (number : ℕ) (work : A) → refused number ≡ done work → ⊥
+  refused-not-done number work e = let z : _≡_ {A = ℕ} 0 1 = cc in omega arith
+
+  pub clear-done : (reasons : List Reason) (work : A) → Clear reasons → unless reasons work ≡ done work
+  unfolding unless
+  clear-done [] work h = refl
+  clear-done ((number if applies) ∷ rest) work h = rw (h .0) (clear-done rest work (h .1))
+
+  -- work that was done is the work given, and no reason applied
+  pub done-clear : (reasons : List Reason) (work result : A) → unless reasons work ≡ done result → Clear reasons × (work ≡ result)
+  unfolding unless
+  done-clear [] work result e = (tt, cc)
+  done-clear ((number if true) ∷ rest) work result e = absurd (refused-not-done number result e)
+  done-clear ((number if false) ∷ rest) work result e =
+      let below = done-clear rest work result e in
+      ((refl, below .0), below .1)
+
+-- the reasons decide, whatever the work is
+pub done-again : {A B : Type 0} (reasons : List Reason) (first result : A) (second : B)
+    → unless reasons first ≡ done result → unless reasons second ≡ done second
+done-again reasons first result second e = clear-done reasons second (done-clear reasons first result e .0)
+
+pub refused-again : {A B : Type 0} (reasons : List Reason) (first : A) (second : B) (number : ℕ)
+    → unless reasons first ≡ refused number → unless reasons second ≡ refused number
+unfolding unless
+refused-again [] first second number e = absurd (refused-not-done number first (sym e))
+refused-again ((other if true) ∷ rest) first second number e = cc
+refused-again ((other if false) ∷ rest) first second number e = refused-again rest first second number e
+
+pub plain-unless : {A : Type 0} (reasons : List Reason) (work : A) → plain (unless reasons work) ≡ unless reasons tt
+unfolding unless
+plain-unless [] work = refl
+plain-unless ((number if true) ∷ rest) work = refl
+plain-unless ((number if false) ∷ rest) work = plain-unless rest work
+
+-- a refusal says its number and changes nothing
+pub no-effect : {A B : Type 0} (outcome : Outcome A) (result : A → B) (before : B) (number : ℕ) → outcome ≡ refused number
+    → (refused number ≡ plain outcome) × (before ≡ after outcome result before)
+no-effect outcome result before number e = (rw e, rw e)
+
+-- reasons one after the other: the first list decides where one of its reasons applies, and the second one where none does
+module _ {A B : Type 0} (second : List Reason) (some : A) (work : B) where
+  pub refused-first : (first : List Reason) (number : ℕ) → unless first some ≡ refused number → unless (first ++ second) work ≡ refused number
+  unfolding unless
+  refused-first [] number e = absurd (refused-not-done number some (sym e))
+  refused-first ((other if true) ∷ rest) number e = cc
+  refused-first ((other if false) ∷ rest) number e = refused-first rest number e
+
+  pub done-first : (first : List Reason) (result : A) → unless first some ≡ done result → unless (first ++ second) work ≡ unless second work
+  unfolding unless
+  done-first [] result e = refl
+  done-first ((other if true) ∷ rest) result e = absurd (refused-not-done other result e)
+  done-first ((other if false) ∷ rest) result e = done-first rest result e
+
+pub clear-append : (first second : List Reason) → Clear first → Clear second → Clear (first ++ second)
+clear-append [] second h k = k
+clear-append ((number if applies) ∷ first) second h k = (h .0, clear-append first second (h .1) k)
+
+pub append-clear : (first second : List Reason) → Clear (first ++ second) → Clear first × Clear second
+append-clear [] second h = (tt, h)
+append-clear ((number if applies) ∷ first) second h =
+    let below = append-clear first second (h .1) in
+    ((h .0, below .0), below .1)

@@ -1,0 +1,31 @@
+-- Document 01, "Reasons to refuse": "A refusal returns its number"; "Checks run in the order of the two lists, the first one first."
+-- What a call gives is either the number of the first reason that applies, or the result of its work.
+-- Assumes nothing.
+use mathlib.Core.Bool.{Bool, cond}
+use mathlib.Core.List.{List, [], _∷_}
+use Prim.Native.Nat.{ℕ}
+
+pub data Outcome (A : Type 0) : Type 0 where
+  refused : ℕ → Outcome A
+  done : A → Outcome A
+
+-- a reason by its number, and whether it applies
+infix 20 _if_
+pub data Reason : Type 0 where
+  _if_ : ℕ → Bool → Reason
+
+module _ {A : Type 0} where
+  -- the first of the reasons that applies, and the work if none does
+  unfoldable pub unless : List Reason → A → Outcome A
+  unless [] work = done work
+  unless ((number if applies) ∷ rest) work = cond applies (refused number) (unless rest work)
+
+  -- what a buffer holds afterwards: the result of the work; "A refusal .. changes no byte."
+  abbrev pub after : {B : Type 0} → Outcome A → (A → B) → B → B
+  after (refused number) result before = before
+  after (done work) result before = result work
+
+  -- the outcome alone, without the work's result
+  abbrev pub plain : Outcome A → Outcome Unit
+  plain (refused number) = refused number
+  plain (done work) = done tt

@@ -1,0 +1,215 @@
+-- Words as sets of nodes: the members of a union and of an insertion, what it means that a word is within n, and that the count of a word's ones
+-- is the number of its members. From the definitions of specs/Signers.antt and the laws of counts, for words of any length n. Assumes nothing.
+use mathlib.Core.Bool.{Bool, true, false, cond, _&&_, _||_, true≢false}
+use mathlib.Core.Logic.{_⊎_, inl, inr}
+use mathlib.Core.Path.{_≡_, refl, sym, ap, ap₂, _∙_}
+use Prim.Native.Nat.{ℕ, zero, suc, _+_, _*_, _/_, _%_, _^_, _-_, _≤_, _<_, zero-le, suc-le-suc}
+use native.Mathlib.Nat.{eq-zero-or-pos, zero-lt-suc, lt-of-lt-of-le, lt-of-not-le, one-mul, pow-suc, mod-lt, mul-mod-left, div-one, div-eq-of-lt, div-eq-of-lt-le}
+use native.Mathlib.Numerals.{one-add}
+use native.Mathlib.Omega.{arith}
+use borrow.Author.Tests.{ltb-true, lt-ltb, le-ltb}
+use lib.Bits.{bitAnd, bitOr, or-shr, or-mod, or-lt, and-shr, and-mod, and-lt}
+use lib.Count.{ones-step, ones-le, leading-top}
+use lib.Dec.{ltb, eqb, leb·suc-suc, eqb·suc-suc, eqb·zero-suc, eqb·suc-zero, lit<}
+use lib.Pow.{pow-pos, pow-mono, pow-lt, shr-shr, shl-exact}
+use Rattle.signers.specs.Sets.{NodeSet, one, count, both, either}
+use Rattle.signers.specs.Signers.{member, insert, union, size, within}
+use Rattle.signers.proofs.Counting.{count-same, count-first, count-either, quorums-meet}
+
+-- ---- the bits of a word
+
+-- a test as a bit, and a bit as a test
+eqb-one : (p : Bool) → eqb (one p) 1 ≡ p
+eqb-one true = refl
+eqb-one false = refl
+
+one-eqb : (x : ℕ) → x < 2 → x ≡ one (eqb x 1)
+one-eqb zero h = refl
+one-eqb (suc zero) h = refl
+one-eqb (suc (suc x)) h = absurd (omega arith)
+
+-- bit u is 1 for a member and 0 for any other node
+pub bit-member : (a u : ℕ) → a / 2 ^ u % 2 ≡ one (member a u)
+unfolding member
+bit-member a u = one-eqb (a / 2 ^ u % 2) (mod-lt (a / 2 ^ u) (zero-lt-suc 1))
+
+-- the lowest bit stands for node 0
+pub lowest-member : (a : ℕ) → a % 2 ≡ one (member a 0)
+lowest-member a = ap (λ (x : ℕ). x % 2) (sym (div-one a)) ∙ bit-member a 0
+
+-- the other bits stand for the nodes that follow
+pub member-half : (a u : ℕ) → member (a / 2) u ≡ member a (suc u)
+unfolding member
+member-half a u = rw (shr-shr a 1 u, one-add)
+
+-- a word below 2 to the power n has no node of n or more
+pub member-below : (a n u : ℕ) → a < 2 ^ n → n ≤ u → member a u ≡ false
+unfolding member
+member-below a n u h l = rw (div-eq-of-lt (lt-of-lt-of-le h (pow-mono l)))
+
+-- a word of n nodes is known by its members
+pub same-members : (a b n : ℕ) → a < 2 ^ n → b < 2 ^ n → ((u : ℕ) → u < n → member a u ≡ member b u) → a ≡ b
+same-members a b zero ha hb h = omega arith
+same-members a b (suc n) ha hb h =
+    let ha′ : a / 2 < 2 ^ n = omega (arith, pow-suc 2 n) in
+    let hb′ : b / 2 < 2 ^ n = omega (arith, pow-suc 2 n) in
+    let halves = same-members (a / 2) (b / 2) n ha′ hb′ (λ u l. member-half a u ∙ h (suc u) (suc-le-suc l) ∙ sym (member-half b u)) in
+    omega (arith, lowest-member a, lowest-member b, ap one (h 0 (zero-lt-suc n)))
+
+-- n ones stand for the nodes 0 to n - 1
+pub member-ones : (n u : ℕ) → member (2 ^ n - 1) u ≡ ltb u n
+unfolding member
+member-ones zero u = member-below 0 0 u (lit< tt) (zero-le) ∙ sym (le-ltb u 0 zero-le)
+member-ones (suc n) zero =
+    let odd : (2 ^ suc n - 1) % 2 ≡ 1 = omega (arith, pow-suc 2 n, pow-pos n) in
+    rw (div-one, odd, lt-ltb 0 (suc n) (zero-lt-suc n))
+member-ones (suc n) (suc u) =
+    let half : (2 ^ suc n - 1) / 2 ≡ 2 ^ n - 1 = omega (arith, pow-suc 2 n, pow-pos n) in
+    sym (member-half (2 ^ suc n - 1) u) ∙ rw (half, leb·suc-suc) (member-ones n u)
+
+-- ---- unions and insertions
+
+-- the members of what an operation on each bit apart makes of two words
+module _ (op : ℕ → ℕ → ℕ) (f : Bool → Bool → Bool)
+    (shifted : (a b k : ℕ) → op a b / 2 ^ k ≡ op (a / 2 ^ k) (b / 2 ^ k))
+    (masked : (a b k : ℕ) → op a b % 2 ^ k ≡ op (a % 2 ^ k) (b % 2 ^ k))
+    (digit : (p q : Bool) → op (one p) (one q) ≡ one (f p q)) where
+  member-op : (a b u : ℕ) → member (op a b) u ≡ f (member a u) (member b u)
+  unfolding member
+  member-op a b u =
+      let bits = masked (a / 2 ^ u) (b / 2 ^ u) 1 ∙ ap₂ op (bit-member a u) (bit-member b u) ∙ digit (member a u) (member b u) in
+      rw (shifted a b u, bits, eqb-one)
+
+-- the operations on one bit
+or-digit : (p q : Bool) → bitOr (one p) (one q) ≡ one (p || q)
+or-digit true true = refl
+or-digit true false = refl
+or-digit false q = refl
+
+and-digit : (p q : Bool) → bitAnd (one p) (one q) ≡ one (p && q)
+and-digit true true = refl
+and-digit true false = refl
+and-digit false q = refl
+
+-- a node is in the union if it is in one of the words
+pub member-union : (a b u : ℕ) → member (union a b) u ≡ (member a u || member b u)
+member-union = member-op bitOr (λ p q. p || q) or-shr or-mod or-digit
+
+-- a node is in the common part if it is in both words
+pub member-common : (a b u : ℕ) → member (bitAnd a b) u ≡ (member a u && member b u)
+member-common = member-op bitAnd (λ p q. p && q) and-shr and-mod and-digit
+
+-- the word 2 to the power v has node v alone
+pub member-power : (v u : ℕ) → member (2 ^ v) u ≡ eqb u v
+unfolding member
+member-power zero zero = refl
+member-power (suc v) zero = rw (div-one, pow-suc, mul-mod-left, eqb·zero-suc v)
+member-power zero (suc u) = member-below 1 1 (suc u) (lit< tt) (omega arith) ∙ sym (eqb·suc-zero u)
+member-power (suc v) (suc u) =
+    let half : 2 ^ suc v / 2 ≡ 2 ^ v = omega (arith, pow-suc 2 v) in
+    sym (member-half (2 ^ suc v) u) ∙ rw (half, eqb·suc-suc) (member-power v u)
+
+-- the bit of a node below 64 fits a word
+pub node-bit : (v : ℕ) → v < 64 → (1 * 2 ^ v) % 2 ^ 64 ≡ 2 ^ v
+node-bit v h = shl-exact 1 v 64 (lit< tt) (omega arith) ∙ one-mul (2 ^ v)
+
+-- a node with a bit is inserted by setting it
+pub insert-bit : (a v : ℕ) → v < 64 → insert a v ≡ bitOr a (2 ^ v)
+unfolding insert
+insert-bit a v h = rw (lt-ltb v 64 h)
+
+-- a node without a bit is not inserted
+pub insert-past : (a v : ℕ) → 64 ≤ v → insert a v ≡ a
+unfolding insert
+insert-past a v h = rw (le-ltb v 64 h)
+
+-- an insertion adds one node and no other
+pub member-insert : (a v u : ℕ) → v < 64 → member (insert a v) u ≡ (member a u || eqb u v)
+member-insert a v u h = rw (insert-bit a v h, member-union, member-power)
+
+-- ---- words within n
+
+-- within n: below 2 to the power n
+pub within-lt : (a n : ℕ) → within a n ≡ true → a < 2 ^ n
+unfolding within
+within-lt a n = ltb-true a (2 ^ n)
+
+-- and back
+pub lt-within : (a n : ℕ) → a < 2 ^ n → within a n ≡ true
+unfolding within
+lt-within a n = lt-ltb a (2 ^ n)
+
+-- every member of a word within n is below n
+pub within-says : (a n u : ℕ) → within a n ≡ true → member a u ≡ true → u < n
+within-says a n u h m = lt-of-not-le (λ l. true≢false (sym m ∙ member-below a n u (within-lt a n h) l))
+
+-- a word of any size has its bits below some n
+below-power : (a : ℕ) → a < 2 ^ a
+below-power zero = lit< tt
+below-power (suc a) = omega (arith, below-power a, pow-suc 2 a)
+
+-- the highest bit that is set stands for a member
+highest-member : (a j : ℕ) → 2 ^ j ≤ a → a < 2 ^ suc j → member a j ≡ true
+unfolding member
+highest-member a j l h = rw (div-eq-of-lt-le {k = 1} (2 ^ j) {m = a} (omega arith) (omega (arith, pow-suc 2 j)))
+
+-- a word whose members are all below n is within n
+pub says-within : (a n : ℕ) → ((u : ℕ) → member a u ≡ true → u < n) → within a n ≡ true
+says-within a n h = lt-within a n (go (eq-zero-or-pos a))
+  where
+    go : (a ≡ zero) ⊎ (zero < a) → a < 2 ^ n
+    go (inl e) = rw e (pow-pos n)
+    go (inr p) =
+        let t = leading-top a a p (below-power a) in
+        lt-of-lt-of-le (t .3) (pow-mono (h (t .0) (highest-member a (t .0) (t .2) (t .3))))
+
+-- a union of words within n is within n
+pub within-union : (a b n : ℕ) → within a n ≡ true → within b n ≡ true → within (union a b) n ≡ true
+within-union a b n ha hb = lt-within (union a b) n (or-lt n a b (within-lt a n ha) (within-lt b n hb))
+
+-- a word within n with a node below n is within n
+pub within-insert : (a v n : ℕ) → within a n ≡ true → v < n → within (insert a v) n ≡ true
+unfolding insert
+within-insert a v n h l = go (ltb v 64)
+  where
+    go : (m : Bool) → within (cond m (bitOr a (2 ^ v)) a) n ≡ true
+    go true = within-union a (2 ^ v) n h (lt-within (2 ^ v) n (pow-lt l))
+    go false = h
+
+-- ---- sizes
+
+-- the count of ones is the number of members
+pub size-count : (a n : ℕ) → a < 2 ^ n → size a ≡ count (member a) n
+unfolding count
+size-count a zero h = omega (arith, ones-le 0 a h)
+size-count a (suc n) h =
+    let halves = size-count (a / 2) n (omega (arith, pow-suc 2 n)) in
+    let follow = count-same (member (a / 2)) (λ u. member a (suc u)) n (λ u l. member-half a u) in
+    omega (arith, ones-step a, lowest-member a, count-first (member a) n)
+
+-- a word that stands for a set has its size
+pub size-of : (a n : ℕ) (p : NodeSet) → a < 2 ^ n → ((u : ℕ) → u < n → member a u ≡ p u) → size a ≡ count p n
+size-of a n p h same = size-count a n h ∙ count-same (member a) p n same
+
+-- the size of a union is the number of nodes in one of the words
+pub size-union-count : (a b n : ℕ) → within a n ≡ true → within b n ≡ true → size (union a b) ≡ count (either (member a) (member b)) n
+size-union-count a b n ha hb =
+    size-of (union a b) n (either (member a) (member b)) (within-lt (union a b) n (within-union a b n ha hb)) (λ u l. member-union a b u)
+
+-- the two sizes have a node of both words twice: once for the union, once for the common part
+pub size-union : (a b : ℕ) → size (union a b) + size (bitAnd a b) ≡ size a + size b
+size-union a b =
+    let n = a + b in
+    let ha : a < 2 ^ n = lt-of-lt-of-le (below-power a) (pow-mono (omega arith)) in
+    let hb : b < 2 ^ n = lt-of-lt-of-le (below-power b) (pow-mono (omega arith)) in
+    let united = size-union-count a b n (lt-within a n ha) (lt-within b n hb) in
+    let common = size-of (bitAnd a b) n (both (member a) (member b)) (and-lt n a b ha hb) (λ u l. member-common a b u) in
+    omega (arith, size-count a n ha, size-count b n hb, count-either (member a) (member b) n)
+
+-- two words that hold a quorum each share more than t nodes
+pub words-meet : (a b n t k : ℕ) → within a n ≡ true → within b n ≡ true → n + t < k + k → k ≤ size a → k ≤ size b
+    → t < count (both (member a) (member b)) n
+words-meet a b n t k ha hb big la lb =
+    let ca = size-count a n (within-lt a n ha) in
+    let cb = size-count b n (within-lt b n hb) in
+    quorums-meet (member a) (member b) n t k big (omega arith) (omega arith)

@@ -1,0 +1,40 @@
+// Sets of nodes in a 64-bit word: bit u, of weight 2 to the power u, stands for node u.
+//
+// A bundle and a record keep the nodes that signed a payload as such a word. Every function is
+// defined for every argument; a node number of 64 or more has no bit, so no set has it.
+ghost use mathlib.Core.Path.{_≡_};
+ghost use Rattle.signers.specs.Signers.{member as isMember, insert as inserted, union as united, size as sized};
+
+// Whether `node` is in `set`.
+pub fn member(set: u64, node: u8) -> bool
+    ensures { λ r. ⌜ r ≡ isMember set node ⌝ }
+{
+    if 64 <= node {
+        return false;
+    }
+    (set >> node) % 2 == 1
+}
+
+// `set` with `node` in it as well. A node without a bit leaves the set as it is.
+pub fn insert(set: u64, node: u8) -> u64
+    ensures { λ r. ⌜ r ≡ inserted set node ⌝ }
+{
+    if 64 <= node {
+        return set;
+    }
+    set | (1 << node)
+}
+
+// The nodes that are in `a`, in `b` or in both. A node in both counts once.
+pub fn union(a: u64, b: u64) -> u64
+    ensures { λ r. ⌜ r ≡ united a b ⌝ }
+{
+    a | b
+}
+
+// How many nodes are in `set`.
+pub fn size(set: u64) -> u32
+    ensures { λ r. ⌜ r ≡ sized set ⌝ }
+{
+    u64::count_ones(set)
+}
