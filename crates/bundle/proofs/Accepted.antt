@@ -1,14 +1,13 @@
 -- What is known of a bundle that reading accepts and of fields that writing accepts, and the facts that make each accept.
 -- Assumes nothing.
-use mathlib.Core.Path.{_≡_, refl, sym, ap, _∙_}
-use mathlib.Core.Bool.{Bool, true, false, not, _&&_, and-eq-true-iff}
-use mathlib.Core.List.{List, [], _∷_, _++_}
-use Prim.Native.Nat.{ℕ, _≤_, _<_, _^_}
+use mathlib.Core.Path.{_≡_, _∙_}
+use mathlib.Core.Bool.{Bool, true, false, not, and-eq-true-iff}
+use mathlib.Core.List.{List, []}
+use Prim.Native.Nat.{ℕ}
 use borrow.Author.Tests.{eqb-true, eq-eqb, ne-eqb, not-false}
-use lib.Dec.{eqb}
 use lib.ListN.{length, getD}
 use Rattle.octets.specs.Octets.{part}
-use Rattle.refusal.specs.Outcome.{Outcome, refused, done, unless, after}
+use Rattle.refusal.specs.Outcome.{refused, done, unless}
 use Rattle.refusal.proofs.Reasons.{Clear, done-clear, clear-done, append-clear, clear-append, refused-first, done-first}
 use Rattle.config.specs.declared.Config.{Config}
 use Rattle.config.specs.Config.{good}

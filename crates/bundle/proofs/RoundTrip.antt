@@ -2,13 +2,13 @@
 -- Assumes nothing.
 use mathlib.Core.Path.{_≡_, refl, sym, ap, ap₂, _∙_, subst}
 use mathlib.Core.Bool.{true}
-use mathlib.Core.List.{List, [], _∷_, _++_}
-use Prim.Native.Nat.{ℕ, _+_, _≤_, _<_, _^_}
+use mathlib.Core.List.{List, _∷_, _++_}
+use Prim.Native.Nat.{ℕ, _<_, _^_}
 use native.Mathlib.Nat.{lt-of-lt-of-le}
 use native.Mathlib.Omega.{arith}
-use lib.ListN.{length, getD, take, drop, length-take, length-drop, length-append, take-append-drop}
+use lib.ListN.{length, getD, drop, length-take, length-drop, take-append-drop}
 use lib.Pow.{pow-mono}
-use lib.Seq.{drop-cons, drop-drop, take-all, take-append-seam, drop-append-seam}
+use lib.Seq.{drop-drop, take-all}
 use borrow.Author.Tests.{not-false}
 use Rattle.octets.specs.Octets.{Bytes, number, bytesOf, part}
 use Rattle.octets.proofs.Numbers.{number-bytesOf, number-part}
@@ -20,9 +20,9 @@ use Rattle.config.specs.declared.Config.{Config}
 use Rattle.config.specs.Config.{good}
 use Rattle.config.proofs.Laws.{good-says}
 use Rattle.bundle.specs.declared.Header.{Header}
-use Rattle.bundle.specs.Bundle.{size, payloadStart, payloadSize, bundleOf, dayOf, headerOf, headerReasons, read, payload, write}
+use Rattle.bundle.specs.Bundle.{size, payloadStart, payloadSize, bundleOf, dayOf, headerOf, headerReasons, read, payload}
 use Rattle.bundle.specs.RoundTrip.{WrittenReadsBack, AcceptedWritesBack}
-use Rattle.bundle.proofs.Accepted.{Readable, Writable, accepted-readable, readable-accepted, accepted-payload, written-writable, writable-written}
+use Rattle.bundle.proofs.Accepted.{accepted-readable, readable-accepted, accepted-payload, written-writable, writable-written}
 
 -- the fields of a bundle that was put together are those that it was put together from
 module _ (day : ℕ) (h : Header) (payload : List ℕ) where

@@ -8,12 +8,11 @@ use refusal::Verdict;
 ghost use mathlib.Core.Path.{_≡_};
 ghost use mathlib.Core.Bool.{true};
 ghost use mathlib.Core.List.{_++_};
-ghost use lib.Dec.{eqb};
 ghost use Rattle.octets.specs.Octets.{bytesOf};
 ghost use Rattle.refusal.specs.Refusal.{verdictOf};
 ghost use Rattle.refusal.specs.Outcome.{unless, after, plain};
 ghost use Rattle.config.specs.Config.{good};
-ghost use Rattle.bundle.specs.Bundle.{bundleOf, encoded, headerReasons, read as readOf, readingOf, payload as payloadOf, write as writeOf};
+ghost use Rattle.bundle.specs.Bundle.{encoded, headerReasons, read as readOf, readingOf, payload as payloadOf, write as writeOf};
 
 // A bundle's bytes.
 pub const SIZE: usize = 32;

@@ -1,12 +1,12 @@
 -- What `good` says, and what of the quorum the protocol's argument rests on. Callers go by these laws and not by the formulas,
 -- so that another quorum, chosen within the same bounds, proves them anew here alone.
 -- Assumes nothing.
-use mathlib.Core.Path.{_≡_, _∙_, refl, ap, subst}
-use mathlib.Core.Bool.{Bool, true, false, _&&_, cond, true≢false, false≢true}
+use mathlib.Core.Path.{_≡_, _∙_, refl, ap}
+use mathlib.Core.Bool.{Bool, true, false, and-eq-true-iff}
 use Prim.Native.Nat.{ℕ, _+_, _-_, _*_, _/_, _^_, _≤_, _<_}
 use native.Mathlib.Nat.{not-le-of-lt}
 use native.Mathlib.Omega.{arith}
-use lib.Dec.{leb, ltb}
+use lib.Dec.{ltb}
 use lib.Pow.{ones-split, ones-lt, high, le-ones, lt-of-le-ones}
 use borrow.Author.Tests.{lt-ltb, le-leb, leb-true, ltb-true}
 use Rattle.config.specs.declared.Config.{Config}
@@ -21,22 +21,14 @@ pub record Good (w : Config) : Type 0 where
   pub resilient : 3 * w .t + 2 * w .d < w .n
   pub known : w .own < w .n
 
-and-true : (a b : Bool) → (a && b) ≡ true → (a ≡ true) × (b ≡ true)
-and-true true b e = (refl, e)
-and-true false b e = absurd (false≢true e)
-
+-- what `good` tests, as bounds, and back
 pub good-says : (w : Config) → good w ≡ true → Good w
 unfolding good
 good-says w e =
-    let last = and-true (leb 1 (w .n) && leb (w .n) 64 && ltb (3 * w .t + 2 * w .d) (w .n)) (ltb (w .own) (w .n)) e in
-    let third = and-true (leb 1 (w .n) && leb (w .n) 64) (ltb (3 * w .t + 2 * w .d) (w .n)) (last .0) in
-    let first = and-true (leb 1 (w .n)) (leb (w .n) 64) (third .0) in
-    record {
-      some = leb-true _ _ (first .0);
-      most = leb-true _ _ (first .1);
-      resilient = ltb-true _ _ (third .1);
-      known = ltb-true _ _ (last .1);
-    }
+    let (first, known) = and-eq-true-iff _ _ .0 e in
+    let (range, resilient) = and-eq-true-iff _ _ .0 first in
+    let (some, most) = and-eq-true-iff _ _ .0 range in
+    record { some = leb-true _ _ some; most = leb-true _ _ most; resilient = ltb-true _ _ resilient; known = ltb-true _ _ known }
 
 pub says-good : (w : Config) → Good w → good w ≡ true
 unfolding good

@@ -10,7 +10,7 @@ use Rattle.config.specs.Config.{good, quorum}
 use Rattle.config.specs.Tables.{Row, tables, configOf, TablesHold}
 
 holds : ℕ → Row → Bool
-holds day r = Bool·beq (good (configOf r day)) (r .sound) && eqb (quorum (configOf r day)) (r .q)
+holds day r = Bool·beq (good (configOf r day)) (r .isGood) && eqb (quorum (configOf r day)) (r .q)
 
 all-hold : (day : ℕ) → every (holds day) tables ≡ true
 unfolding holds tables good quorum

@@ -13,11 +13,11 @@ pub record Row : Type 0 where
   pub n : ℕ
   pub t : ℕ
   pub d : ℕ
-  pub sound : Bool
+  pub isGood : Bool
   pub q : ℕ
 
 abbrev row : ℕ → ℕ → ℕ → Bool → ℕ → Row
-row n t d sound q = record { n = n; t = t; d = d; sound = sound; q = q }
+row n t d isGood q = record { n = n; t = t; d = d; isGood = isGood; q = q }
 
 unfoldable pub tables : List Row
 tables =
@@ -38,4 +38,4 @@ abbrev pub configOf : Row → ℕ → Config
 configOf r day = record { n = r .n; t = r .t; d = r .d; own = 0; day = day }
 
 abbrev pub TablesHold : Type 0
-TablesHold = (r : Row) (day : ℕ) → List·Memᴰ r tables → (good (configOf r day) ≡ r .sound) × (quorum (configOf r day) ≡ r .q)
+TablesHold = (r : Row) (day : ℕ) → List·Memᴰ r tables → (good (configOf r day) ≡ r .isGood) × (quorum (configOf r day) ≡ r .q)

@@ -1,18 +1,17 @@
--- Bytes joined by shifts and ors make the number that they write.
+-- Reading a word: bytes joined by shifts and ors make the number that they write.
 -- Assumes nothing.
 use mathlib.Core.Path.{_≡_, refl, sym, ap, ap₂, _∙_, subst}
-use mathlib.Core.List.{List, [], _∷_, _++_, reverse, reverse-reverse, append-assoc}
+use mathlib.Core.List.{List, [], _∷_, reverse}
 use Prim.Native.Nat.{ℕ, zero, suc, _+_, _*_, _/_, _%_, _^_, _≤_, _<_}
-use native.Mathlib.Nat.{pow-suc, mul-suc, div-one, add-suc}
-use native.Mathlib.Numerals.{add-one}
+use native.Mathlib.Nat.{pow-suc, mul-suc, div-one}
 use native.Mathlib.Omega.{arith}
 use lib.Bits.{bitOr, or-shifted}
 use lib.Pow.{shl-exact, pow-add}
-use lib.Dec.{lit<, lit≤}
-use lib.ListN.{length, getD, set, take, drop, drop-of-length-le}
-use lib.Seq.{drop-cons, drop-drop, take-all, sets, sets-eq}
+use lib.Dec.{lit≤}
+use lib.ListN.{length, getD, take, drop}
+use lib.Seq.{drop-cons, take-all}
 use borrow.Author.Tests.{eq-eqb}
-use Rattle.octets.specs.Octets.{Bytes, number, bytesOf, part, wordOf, words, filled}
+use Rattle.octets.specs.Octets.{Bytes, number, bytesOf, part, wordOf}
 use Rattle.octets.proofs.Numbers.{number-lt, bytesOf-number, length-part, number-part, bytes-reverse, bytes-bytesOf}
 
 -- a byte shifted above those that follow it, and so on
@@ -20,10 +19,12 @@ abbrev pub joined : ℕ → List ℕ → ℕ
 joined b [] = b
 joined b (c ∷ cs) = bitOr (b * 2 ^ (8 * length (c ∷ cs)) % 2 ^ 64) (joined c cs)
 
+-- a byte is eight bits
 base : (k : ℕ) → 256 ^ k ≡ 2 ^ (8 * k)
 base zero = refl
 base (suc k) = pow-suc 256 k ∙ ap (λ (x : ℕ). x * 256) (base k) ∙ sym (ap (λ (x : ℕ). 2 ^ x) (mul-suc 8 k) ∙ pow-add 2 (8 * k) 8)
 
+-- up to eight bytes joined are the number that they write
 pub joined-number : (b : ℕ) (bs : List ℕ) → Bytes (b ∷ bs) → length bs ≤ 7 → joined b bs ≡ number (b ∷ bs)
 unfolding number
 joined-number b [] h l = omega arith
@@ -47,6 +48,7 @@ lowFirst x =
     ∷ x / 0x100_0000_0000_0000 % 256
     ∷ []
 
+-- which is their other order
 pub lowFirst-reverse : (x : ℕ) → lowFirst x ≡ reverse (bytesOf 8 x)
 unfolding bytesOf
 lowFirst-reverse x = rw div-one
@@ -66,20 +68,12 @@ abbrev pub elements : List ℕ → ℕ → ℕ → List ℕ
 elements xs i zero = []
 elements xs i (suc k) = getD xs i 0 ∷ elements xs (suc i) k
 
+-- they are the part of the list there
 pub elements-part : (xs : List ℕ) (i k : ℕ) → i + k ≤ length xs → elements xs i k ≡ part i k xs
 elements-part xs i zero h = refl
 elements-part xs i (suc k) h =
     let room : i < length xs = omega arith in
     ap (λ (r : List ℕ). getD xs i 0 ∷ r) (elements-part xs (suc i) k (omega arith)) ∙ sym (ap (take (suc k)) (drop-cons xs i 0 room))
-
--- eight bytes, joined, are their word
-pub joined-word : (xs : List ℕ) → length xs ≡ 8 → Bytes xs → joined (getD xs 0 0) (elements xs 1 7) ≡ wordOf xs
-unfolding wordOf
-joined-word xs l bytes =
-    let whole : elements xs 0 8 ≡ xs = elements-part xs 0 8 (omega arith) ∙ take-all 8 xs (omega arith) in
-    joined-number (getD xs 0 0) (elements xs 1 7) (subst Bytes (sym whole) bytes) (lit≤ tt)
-    ∙ ap number whole
-    ∙ rw (eq-eqb (length xs) 8 l)
 
 -- a word is the number of its eight bytes,
 pub word-number : (xs : List ℕ) → length xs ≡ 8 → wordOf xs ≡ number xs
@@ -90,35 +84,10 @@ word-number xs l = rw (eq-eqb (length xs) 8 l)
 pub word-bytes : (xs : List ℕ) (i : ℕ) → i + 8 ≤ length xs → Bytes xs → bytesOf 8 (wordOf (part i 8 xs)) ≡ part i 8 xs
 word-bytes xs i h bytes = ap (bytesOf 8) (word-number (part i 8 xs) (length-part xs i 8 h)) ∙ number-part xs i 8 bytes h
 
--- stores from index i + j on, one by one
-abbrev pub stores : List ℕ → ℕ → ℕ → List ℕ → List ℕ
-stores xs i j [] = xs
-stores xs i j (v ∷ vs) = stores (set xs (i + j) v) i (suc j) vs
-
-stores-sets : (xs : List ℕ) (i j : ℕ) (vs : List ℕ) → stores xs i j vs ≡ sets xs (i + j) vs
-stores-sets xs i j [] = refl
-stores-sets xs i j (v ∷ vs) = stores-sets (set xs (i + j) v) i (suc j) vs ∙ ap (λ (m : ℕ). sets (set xs (i + j) v) m vs) (add-suc i j)
-
--- eight stores of a word's bytes, from index i on, put the word there
-pub stored-word : (xs : List ℕ) (i x y : ℕ) → i + 8 ≤ length xs → bytesOf 8 y ≡ reverse (bytesOf 8 x)
-    → stores (set xs i (y % 256)) i 1 (drop 1 (lowFirst y)) ≡ take i xs ++ (bytesOf 8 x ++ drop (i + 8) xs)
-stored-word xs i x y h e =
-    stores-sets (set xs i (y % 256)) i 1 (drop 1 (lowFirst y))
-    ∙ ap (λ (m : ℕ). sets (set xs i (y % 256)) m (drop 1 (lowFirst y))) (add-one i)
-    ∙ sets-eq (lowFirst y) xs i h
-    ∙ append-assoc (take i xs) (lowFirst y) (drop (i + 8) xs)
-    ∙ ap (λ (r : List ℕ). take i xs ++ (r ++ drop (i + 8) xs)) (lowFirst-reverse y ∙ ap reverse e ∙ reverse-reverse (bytesOf 8 x))
-
--- four words put one after the other over 32 bytes leave nothing of what was there
-pub put-words : (xs ys zs us vs : List ℕ) (a b c d : ℕ) → length xs ≡ 32
-    → ys ≡ take 0 xs ++ (bytesOf 8 a ++ drop (0 + 8) xs) → zs ≡ take 8 ys ++ (bytesOf 8 b ++ drop (8 + 8) ys)
-    → us ≡ take 16 zs ++ (bytesOf 8 c ++ drop (16 + 8) zs) → vs ≡ take 24 us ++ (bytesOf 8 d ++ drop (24 + 8) us)
-    → vs ≡ filled xs a b c d
-unfolding filled words bytesOf
-put-words xs ys zs us vs a b c d l e f g h =
-    let gone : drop 8 (drop 8 (drop 8 (drop 8 xs))) ≡ [] = simp drop-drop (drop-of-length-le xs {i = 32} (omega arith)) in
-    rw (eq-eqb (length xs) 32 l)
-    (h
-    ∙ ap (λ (r : List ℕ). take 24 r ++ (bytesOf 8 d ++ drop 32 r))
-    (g ∙ ap (λ (r : List ℕ). take 16 r ++ (bytesOf 8 c ++ drop 24 r)) (f ∙ ap (λ (r : List ℕ). take 8 r ++ (bytesOf 8 b ++ drop 16 r)) e))
-    ∙ ap (λ (r : List ℕ). words a b c d ++ r) gone)
+-- eight bytes, joined, are their word
+pub joined-word : (xs : List ℕ) → length xs ≡ 8 → Bytes xs → joined (getD xs 0 0) (elements xs 1 7) ≡ wordOf xs
+joined-word xs l bytes =
+    let whole : elements xs 0 8 ≡ xs = elements-part xs 0 8 (omega arith) ∙ take-all 8 xs (omega arith) in
+    joined-number (getD xs 0 0) (elements xs 1 7) (subst Bytes (sym whole) bytes) (lit≤ tt)
+    ∙ ap number whole
+    ∙ sym (word-number xs l)

@@ -1,4 +1,5 @@
 -- Laws of this crate that belong to no one function.
 pub mod Numbers
 pub mod Joined
+pub mod Stored
 pub mod Listed

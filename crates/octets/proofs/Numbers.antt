@@ -3,8 +3,8 @@
 use mathlib.Core.Path.{_≡_, refl, sym, ap, ap₂, _∙_, subst}
 use mathlib.Core.Bool.{Bool, true, false}
 use mathlib.Core.List.{List, [], _∷_, _++_, reverse, reverse-cons}
-use Prim.Native.Nat.{ℕ, zero, suc, _+_, _*_, _/_, _%_, _^_, _≤_, _<_, suc-le-suc, zero-le}
-use native.Mathlib.Nat.{add-zero, zero-add, suc-add, add-suc, one-le-pow, pow-suc, pow-zero, pow-succ', mul-comm, mul-assoc, add-mul, add-assoc, add-comm, div-div-eq-div-mul, mod-lt, mod-eq-of-lt, add-mul-div-right, div-add-mod', zero-mul, mul-add-div-right, mul-add-mod-self-right, le-of-suc-le-suc, not-suc-le-zero}
+use Prim.Native.Nat.{ℕ, zero, suc, _+_, _*_, _/_, _%_, _^_, _≤_, _<_}
+use native.Mathlib.Nat.{zero-add, suc-add, one-le-pow, pow-succ', mul-comm, mul-assoc, add-mul, add-assoc, div-div-eq-div-mul, mod-lt, mod-eq-of-lt, zero-mul, mul-add-div-right, mul-add-mod-self-right}
 use native.Mathlib.Omega.{arith}
 use lib.Arith.{digits-lt, digits-div, digits-mod, mod-mul}
 use lib.Dec.{ltb, lit<}
@@ -17,6 +17,7 @@ use Rattle.octets.specs.Octets.{Bytes, number, bytesOf, part}
 pub base-pos : (k : ℕ) → 0 < 256 ^ k
 base-pos k = one-le-pow k 256 (lit< tt)
 
+-- what `bytesOf` gives: k of them, each a byte
 pub length-bytesOf : (k x : ℕ) → length (bytesOf k x) ≡ k
 unfolding bytesOf
 length-bytesOf zero x = refl
@@ -28,6 +29,7 @@ bytes-bytesOf zero x i = lit< tt
 bytes-bytesOf (suc k) x zero = mod-lt (x / 256 ^ k) (lit< tt)
 bytes-bytesOf (suc k) x (suc i) = bytes-bytesOf k x i
 
+-- lists of bytes, joined, turned round and cut
 pub bytes-append : (xs ys : List ℕ) → Bytes xs → Bytes ys → Bytes (xs ++ ys)
 bytes-append [] ys h k i = k i
 bytes-append (x ∷ xs) ys h k zero = h 0
@@ -42,7 +44,6 @@ bytes-reverse [] h = h
 bytes-reverse (x ∷ xs) h =
     rw reverse-cons (bytes-append (reverse xs) (x ∷ []) (bytes-reverse xs (λ i. h (suc i))) (bytes-one x (h 0)))
 
--- a part of bytes is bytes
 pub bytes-part : (i k : ℕ) (xs : List ℕ) → Bytes xs → Bytes (part i k xs)
 bytes-part i k xs h n = go (ltb n k) refl
   where
@@ -68,6 +69,7 @@ number-bytesOf-mod (suc k) x =
     ∙ sym (mod-mul x (lit< tt) (base-pos k))
     ∙ ap (λ (m : ℕ). x % m) (sym (pow-succ' 256 k))
 
+-- a number that k bytes can write is read back from them,
 pub number-bytesOf : (k x : ℕ) → x < 256 ^ k → number (bytesOf k x) ≡ x
 number-bytesOf k x h = number-bytesOf-mod k x ∙ mod-eq-of-lt h
 
@@ -81,6 +83,7 @@ bytesOf-low (suc k) a r =
     (ap₂ _∷_ (ap (λ (x : ℕ). x % 256) (mul-add-div-right (base-pos k) (a * 256) r) ∙ mul-add-mod-self-right a 256 (r / 256 ^ k))
     (bytesOf-low k (a * 256) r))
 
+-- and bytes are written by the number that they write
 pub bytesOf-number : (bs : List ℕ) → Bytes bs → bytesOf (length bs) (number bs) ≡ bs
 unfolding number bytesOf
 bytesOf-number [] h = refl
@@ -89,10 +92,11 @@ bytesOf-number (b ∷ bs) h =
     (ap (λ (x : ℕ). x % 256) (digits-div b (number-lt bs (λ i. h (suc i)))) ∙ mod-eq-of-lt (h 0))
     (bytesOf-low (length bs) b (number bs) ∙ bytesOf-number bs (λ i. h (suc i)))
 
+-- a part within a list has its whole length
 pub length-part : (xs : List ℕ) (i k : ℕ) → i + k ≤ length xs → length (part i k xs) ≡ k
 length-part xs i k h = simp (length-take, length-drop) (omega arith)
 
--- a part of a list of bytes is written by its number
+-- and a part of bytes is written by its number
 pub number-part : (xs : List ℕ) (i k : ℕ) → Bytes xs → i + k ≤ length xs → bytesOf k (number (part i k xs)) ≡ part i k xs
 number-part xs i k bytes h =
     subst (λ (m : ℕ). bytesOf m (number (part i k xs)) ≡ part i k xs) (length-part xs i k h) (bytesOf-number (part i k xs) (bytes-part i k xs bytes))
@@ -112,7 +116,6 @@ bytesOf-split zero k x = ap (λ (m : ℕ). bytesOf m x) (zero-add k)
 bytesOf-split (suc j) k x =
     rw (suc-add, bytesOf-split j k x, div-div-eq-div-mul, pow-add, mul-comm (256 ^ j))
 
--- the number of j + k bytes: that of the first j above that of the next k
 number-halves : (xs : List ℕ) (j k : ℕ) → j + k ≤ length xs → number (take (j + k) xs) ≡ number (take j xs) * 256 ^ k + number (part j k xs)
 number-halves xs j k h =
     ap number (take-add j k xs) ∙ number-append (take j xs) (part j k xs)
@@ -121,6 +124,7 @@ number-halves xs j k h =
 part-lt : (xs : List ℕ) (j k : ℕ) → j + k ≤ length xs → Bytes xs → number (part j k xs) < 256 ^ k
 part-lt xs j k h bytes = subst (λ (m : ℕ). number (part j k xs) < 256 ^ m) (length-part xs j k h) (number-lt (part j k xs) (bytes-part j k xs bytes))
 
+-- the first j bytes are the number's high part, the next k its low part
 pub number-high : (xs : List ℕ) (j k : ℕ) → j + k ≤ length xs → Bytes xs → number (take (j + k) xs) / 256 ^ k ≡ number (take j xs)
 number-high xs j k h bytes = ap (λ (m : ℕ). m / 256 ^ k) (number-halves xs j k h) ∙ digits-div (number (take j xs)) (part-lt xs j k h bytes)
 

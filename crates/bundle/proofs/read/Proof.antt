@@ -1,8 +1,10 @@
 -- `read` meets its contract: each return follows from the tests passed before it, and the last two from the verdict of `check`.
 -- Assumes nothing.
 use mathlib.Core.Bool.{true, _&&_}
+use mathlib.Core.List.{List}
 use mathlib.Core.Path.{_≡_, sym, ap, _∙_}
-use Prim.Native.Nat.{ℕ, _/_, _%_}
+use Prim.Native.Nat.{ℕ, _/_}
+use borrow.Author.Needs.{needs}
 use borrow.Author.Tests.{eq-eqb, ne-eqb, not-true, not-false}
 use lib.Dec.{eqb}
 use lib.ListN.{length, getD}
@@ -10,47 +12,70 @@ use Rattle.octets.specs.Octets.{Bytes}
 use Rattle.refusal.specs.Outcome.{unless}
 use Rattle.refusal.specs.Refusal.{verdictOf}
 use Rattle.refusal.proofs.Reasons.{done-again, refused-again}
+use Rattle.config.specs.declared.Config.{Config}
 use Rattle.config.specs.Config.{good}
 use Rattle.bundle.specs.declared.Header.{Header}
 use Rattle.bundle.specs.Bundle.{size, dayOf, headerOf, headerReasons, readReasons, read}
 use Rattle.bundle.proofs.Fields.{slot-day, reserved-zero, reserved-set, signers-word}
-use borrow.Author.Needs.{needs}
 use Rattle.bundle.proofs.read.Statement.{statement}
 use Rattle.bundle.proofs.read.Tie as tie
 
-good-requires : tie.Need-good-requires
-good-requires c κs = search needs
+-- ---- what is known where the first two tests have passed
 
-bytes : (c : tie.After-shared-slice-known) → Bytes (c .before .args .bundle .now)
-bytes c i = c .shared-slice-known .given i .fits
+abbrev config : tie.Else2 → Config
+config c = c .before .before .before .before .args .config
+
+abbrev bundle : tie.Else2 → List ℕ
+bundle c = c .before .before .before .before .args .bundle .now
 
 good-known : (c : tie.Else1) → good (c .before .before .before .args .config) ≡ true
 good-known c = sym (c .before .good2 .ensures) ∙ not-false _ (c .if1 .left)
 
-length-known : (c : tie.Else2) → eqb (length (c .before .before .before .before .args .bundle .now)) size ≡ true
+length-known : (c : tie.Else2) → eqb (length (bundle c)) size ≡ true
 length-known c = eq-eqb _ _ (c .if2 .left)
 
-reserved-known : (c : tie.Else3) → (eqb (getD (c .before .before .before .before .before .before .before .before .before .before .before .before .args .bundle .now) 6 0) 0 && eqb (getD (c .before .before .before .before .before .before .before .before .before .before .before .before .args .bundle .now) 7 0) 0) ≡ true
-reserved-known c = reserved-zero (c .before .before .before .before .before .before .before .before .before .before .before .before .args .bundle .now) (c .before .before .before .before .before .before .before .before .if2 .left) (bytes (c .before .before .before .before .before .before .before .before .before .before .before)) (rw (c .before .before .before .before .before .before .word .ensures) at (c .if3 .left))
+bytes-known : (c : tie.Else2) → Bytes (bundle c)
+bytes-known c i = c .before .before .before .shared-slice-known .given i .fits
 
-day-known : (c : tie.After-word) → c .word .result / 0x1_0000_0000 ≡ dayOf (c .before .before .before .before .before .before .args .bundle .now)
-day-known c = ap (λ (x : ℕ). x / 0x1_0000_0000) (c .word .ensures) ∙ slot-day _ (c .before .before .if2 .left) (bytes (c .before .before .before .before .before))
+-- ---- and behind the calls
+
+abbrev sized : tie.After-check → tie.Else2
+sized c = c .before .before .before .before .before .before .before
+
+slot-known : (c : tie.After-check) → c .before .before .before .before .before .word .result / 0x1_0000_0000 ≡ dayOf (bundle (sized c))
+slot-known c = ap (λ (x : ℕ). x / 0x1_0000_0000) (c .before .before .before .before .before .word .ensures) ∙ slot-day _ (sized c .if2 .left) (bytes-known (sized c))
+
+reserved-known : (c : tie.Else3) → (eqb (getD (bundle (sized (c .before))) 6 0) 0 && eqb (getD (bundle (sized (c .before))) 7 0) 0) ≡ true
+reserved-known c =
+    reserved-zero (bundle (sized (c .before))) (sized (c .before) .if2 .left) (bytes-known (sized (c .before))) (rw (c .before .before .before .before .before .before .word .ensures) at (c .if3 .left))
 
 -- what `check` is handed
-abbrev header : tie.After-word2 → Header
-header c = record { sender = getD (c .before .before .before .before .before .before .before .before .before .before .args .bundle .now) 4 0; seq = getD (c .before .before .before .before .before .before .before .before .before .before .args .bundle .now) 5 0; signers = c .word2 .result }
+abbrev header : tie.After-check → Header
+header c = record { sender = getD (bundle (sized c)) 4 0; seq = getD (bundle (sized c)) 5 0; signers = c .before .word2 .result }
 
-header-known : (c : tie.After-word2) → header c ≡ headerOf (c .before .before .before .before .before .before .before .before .before .before .args .bundle .now)
+header-known : (c : tie.After-check) → header c ≡ headerOf (bundle (sized c))
 unfolding headerOf
 header-known c =
     ap {B = Header} (λ (g : ℕ). record { sender = header c .sender; seq = header c .seq; signers = g })
-    (c .word2 .ensures ∙ signers-word (c .before .before .before .before .before .before .before .before .before .before .args .bundle .now) (c .before .before .before .before .before .before .if2 .left))
+    (c .before .word2 .ensures ∙ signers-word (bundle (sized c)) (sized c .if2 .left))
 
--- with the first tests passed, the reasons left are those of the header
-header-decides : (c : tie.Else4) → read (c .before .before .before .before .before .before .before .before .before .before .before .before .before .before .args .config) (c .before .before .before .before .before .before .before .before .before .before .before .before .before .before .args .bundle .now) ≡ unless (headerReasons (c .before .before .before .before .before .before .before .before .before .before .before .before .before .before .args .config) (header (c .before .before .before .before))) (header (c .before .before .before .before))
+-- with the first four tests passed, the reasons left are those of the header
+header-decides : (c : tie.Else4)
+    → read (config (sized (c .before .before .before))) (bundle (sized (c .before .before .before))) ≡ unless (headerReasons (config (sized (c .before .before .before))) (header (c .before .before .before))) (header (c .before .before .before))
 unfolding read readReasons unless
 header-decides c =
-    simp (good-known (c .before .before .before .before .before .before .before .before .before .before .before), length-known (c .before .before .before .before .before .before .before .before .before .before), reserved-known (c .before .before), eq-eqb _ _ (sym (day-known (c .before .before .before .before .before .before .before .before)) ∙ c .if4 .left), ← header-known (c .before .before .before .before))
+    simp (
+      good-known (sized (c .before .before .before) .before),
+      length-known (sized (c .before .before .before)),
+      reserved-known (c .before .before),
+      eq-eqb _ _ (sym (slot-known (c .before .before .before)) ∙ c .if4 .left),
+      ← header-known (c .before .before .before),
+    )
+
+-- ---- the needs
+
+good-requires : tie.Need-good-requires
+good-requires c κs = search needs
 
 returns : tie.Need-returns
 unfolding read readReasons unless
@@ -95,14 +120,25 @@ check-requires c κs = good-known (c .before .before .before .before .before .be
 
 returns-3 : tie.Need-returns-3
 unfolding read readReasons unless
-returns-3 c = simp (good-known (c .before .before .before .before .before .before .before .before .before), length-known (c .before .before .before .before .before .before .before .before), reserved-set (c .before .before .before .before .before .before .before .before .before .before .before .before .args .bundle .now) (c .before .before .before .before .before .before .before .before .if2 .left) (bytes (c .before .before .before .before .before .before .before .before .before .before .before)) (rw (c .before .before .before .before .before .before .word .ensures) at (c .if3 .taken)))
+returns-3 c =
+    simp (
+      good-known (sized (c .before) .before),
+      length-known (sized (c .before)),
+      reserved-set (bundle (sized (c .before))) (sized (c .before) .if2 .left) (bytes-known (sized (c .before))) (rw (c .before .before .before .before .before .before .word .ensures) at (c .if3 .taken)),
+    )
 
 cast-if4 : tie.Need-cast-if4
 cast-if4 c = search needs
 
 returns-4 : tie.Need-returns-4
 unfolding read readReasons unless
-returns-4 c = simp (good-known (c .before .before .before .before .before .before .before .before .before .before .before), length-known (c .before .before .before .before .before .before .before .before .before .before), reserved-known (c .before .before), ne-eqb _ _ (λ q. c .if4 .taken (day-known (c .before .before .before .before .before .before .before .before) ∙ q)))
+returns-4 c =
+    simp (
+      good-known (sized (c .before .before .before) .before),
+      length-known (sized (c .before .before .before)),
+      reserved-known (c .before .before),
+      ne-eqb _ _ (λ q. c .if4 .taken (slot-known (c .before .before .before) ∙ q)),
+    )
 
 enum-told : tie.Need-enum-told
 enum-told c = search needs

@@ -17,30 +17,56 @@ use borrow.Author.Needs.{needs}
 use Rattle.bundle.proofs.write.Statement.{statement}
 use Rattle.bundle.proofs.write.Tie as tie
 
-good-requires : tie.Need-good-requires
-good-requires c κs = search needs
+-- ---- the places on the way, each from a later one, and what is known there
 
-good-known : (c : tie.Else1) → good (c .before .before .before .before .args .config) ≡ true
+abbrev entry : tie.Else1 → tie.Start
+entry c = c .before .before .before .before
+
+abbrev configured : tie.After-enum-told → tie.Else1
+configured c = c .before .before .before
+
+abbrev fine : tie.Else3 → tie.After-enum-told
+fine c = c .before .before
+
+abbrev measured : tie.After-word2 → tie.Else3
+measured c = c .before .before .before .before
+
+good-known : (c : tie.Else1) → good (entry c .args .config) ≡ true
 good-known c = sym (c .before .good2 .ensures) ∙ not-false _ (c .if1 .left)
 
-fine : (c : tie.After-enum-told) → unless {A = Unit} (headerReasons (c .before .before .before .before .before .before .before .args .config) (c .before .before .before .before .before .before .before .args .header)) tt ≡ done tt
-fine c = sym (c .before .before .check .ensures) ∙ ap verdictOf (c .enum-told .given .1)
+fine-known : (c : tie.After-enum-told) → unless {A = Unit} (headerReasons (entry (configured c) .args .config) (entry (configured c) .args .header)) tt ≡ done tt
+fine-known c = sym (c .before .before .check .ensures) ∙ ap verdictOf (c .enum-told .given .1)
 
-written : (c : tie.Else3) → write (c .before .before .before .before .before .before .before .before .before .args .config) (c .before .before .before .before .before .before .before .before .before .args .header) (c .before .before .before .before .before .before .before .before .before .args .payload .now) (c .before .before .before .before .before .before .before .before .before .args .out .now)
-    ≡ done (bundleOf (c .before .before .before .before .before .before .before .before .before .args .config .day) (c .before .before .before .before .before .before .before .before .before .args .header) (c .before .before .before .before .before .before .before .before .before .args .payload .now))
-written c =
-    writable-written _ _ _ _
-    (record { configured = good-known (c .before .before .before .before .before); clear = done-clear _ _ _ (fine (c .before .before)) .0; whole = c .before .if2 .left; room = c .if3 .left })
+module _ (c : tie.Else3) where
+  abbrev given : tie.Start
+  given = entry (configured (fine c))
 
-bytes-known : (c : tie.After-word2)
-    → encoded (c .before .before .before .before .before .before .before .before .before .before .before .before .before .args .config .day) (c .before .before .before .before .before .before .before .before .before .before .before .before .before .args .header) (bytesOf 8 (c .before .before .word .result) ++ bytesOf 8 (c .word2 .result)) (c .before .before .before .before .before .before .before .before .before .before .before .before .before .args .out .now)
-    ≡ bundleOf (c .before .before .before .before .before .before .before .before .before .before .before .before .before .args .config .day) (c .before .before .before .before .before .before .before .before .before .before .before .before .before .args .header) (c .before .before .before .before .before .before .before .before .before .before .before .before .before .args .payload .now)
+  written : write (given .args .config) (given .args .header) (given .args .payload .now) (given .args .out .now)
+      ≡ done (bundleOf (given .args .config .day) (given .args .header) (given .args .payload .now))
+  written =
+      writable-written _ _ _ _
+      (record {
+        configured = good-known (configured (fine c));
+        clear = done-clear _ _ _ (fine-known (fine c)) .0;
+        whole = c .before .if2 .left;
+        room = c .if3 .left;
+      })
+
+-- what `encode` leaves is the bundle
+encoded-known : (c : tie.After-word2)
+    → encoded (given (measured c) .args .config .day) (given (measured c) .args .header) (bytesOf 8 (c .before .before .word .result) ++ bytesOf 8 (c .word2 .result)) (given (measured c) .args .out .now)
+    ≡ bundleOf (given (measured c) .args .config .day) (given (measured c) .args .header) (given (measured c) .args .payload .now)
 unfolding encoded
-bytes-known c =
-    rw (eq-eqb _ _ (c .before .before .before .before .if3 .left))
-    (ap (bundleOf (c .before .before .before .before .before .before .before .before .before .before .before .before .before .args .config .day) (c .before .before .before .before .before .before .before .before .before .before .before .before .before .args .header))
+encoded-known c =
+    rw (eq-eqb _ _ (measured c .if3 .left))
+    (ap (bundleOf (given (measured c) .args .config .day) (given (measured c) .args .header))
     (ap₂ (λ (x y : ℕ). bytesOf 8 x ++ bytesOf 8 y) (c .before .before .word .ensures) (c .word2 .ensures)
-    ∙ payload-words _ (c .before .before .before .before .before .if2 .left) (λ i. c .before .before .before .before .before .before .before .before .before .before .before .before .shared-slice-known .given i .fits)))
+    ∙ payload-words _ (measured c .before .if2 .left) (λ i. c .before .before .before .before .before .before .before .before .before .before .before .before .shared-slice-known .given i .fits)))
+
+-- ---- the needs
+
+good-requires : tie.Need-good-requires
+good-requires c κs = search needs
 
 returns : tie.Need-returns
 returns c = no-effect _ _ _ _ (write-unconfigured _ _ _ _ (sym (c .before .good2 .ensures) ∙ not-true _ (c .if1 .taken)))
@@ -58,10 +84,10 @@ enum-told : tie.Need-enum-told
 enum-told c = search needs
 
 returns-3 : tie.Need-returns-3
-returns-3 c = no-effect _ _ _ _ (write-payload _ _ _ _ (good-known (c .before .before .before .before)) (fine (c .before)) (c .if2 .taken))
+returns-3 c = no-effect _ _ _ _ (write-payload _ _ _ _ (good-known (configured (c .before))) (fine-known (c .before)) (c .if2 .taken))
 
 returns-4 : tie.Need-returns-4
-returns-4 c = no-effect _ _ _ _ (write-out _ _ _ _ (good-known (c .before .before .before .before .before)) (fine (c .before .before)) (c .before .if2 .left) (c .if3 .taken))
+returns-4 c = no-effect _ _ _ _ (write-out _ _ _ _ (good-known (configured (c .before .before))) (fine-known (c .before .before)) (c .before .if2 .left) (c .if3 .taken))
 
 sub-word : tie.Need-sub-word
 sub-word c = search needs
@@ -94,7 +120,7 @@ same-length : tie.Need-same-length
 same-length c = search needs
 
 returns-5 : tie.Need-returns-5
-returns-5 c = (rw (written (c .before .before .before .before .before .before .before .before)), rw (written (c .before .before .before .before .before .before .before .before)) (c .before .before .encode .ensures ∙ bytes-known (c .before .before .before .before)))
+returns-5 c = (rw (written (measured (c .before .before .before .before))), rw (written (measured (c .before .before .before .before))) (c .before .before .encode .ensures ∙ encoded-known (c .before .before .before .before)))
 
 pub write-spec : {M : Type 1} → statement M
 write-spec =

@@ -1,8 +1,7 @@
 -- `fill` meets its contract. Assumes nothing.
-use mathlib.Core.Path.{sym}
 use borrow.Author.Tests.{ne-eqb}
 use Rattle.octets.specs.Octets.{filled}
-use Rattle.octets.proofs.Joined.{put-words}
+use Rattle.octets.proofs.Stored.{put-words}
 use borrow.Author.Needs.{needs}
 use Rattle.octets.proofs.fill.Statement.{statement}
 use Rattle.octets.proofs.fill.Tie as tie

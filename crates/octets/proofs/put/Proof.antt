@@ -1,7 +1,7 @@
 -- `put` meets its contract: eight stores keep the length, and put the word in its place. Assumes nothing.
 use native.Mathlib.Omega.{arith}
 use lib.ListN.{length-set}
-use Rattle.octets.proofs.Joined.{stored-word}
+use Rattle.octets.proofs.Stored.{stored-word}
 use borrow.Author.Needs.{needs}
 use Rattle.octets.proofs.put.Statement.{statement}
 use Rattle.octets.proofs.put.Tie as tie

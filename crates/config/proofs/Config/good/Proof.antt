@@ -2,7 +2,7 @@
 -- Assumes nothing.
 use mathlib.Core.Path.{sym}
 use native.Mathlib.Omega.{arith}
-use Rattle.config.proofs.Laws.{Good, says-good, not-good}
+use Rattle.config.proofs.Laws.{says-good, not-good}
 use borrow.Author.Needs.{needs}
 use Rattle.config.proofs.Config.good.Statement.{statement}
 use Rattle.config.proofs.Config.good.Tie as tie

@@ -2,7 +2,7 @@
 use mathlib.Core.Path.{sym, _∙_}
 use native.Mathlib.Omega.{arith}
 use borrow.Author.Tests.{not-true, not-false}
-use Rattle.config.specs.Config.{good, mask}
+use Rattle.config.specs.Config.{mask}
 use Rattle.config.proofs.Laws.{Good, good-says, mask-shift}
 use borrow.Author.Needs.{needs}
 use Rattle.config.proofs.Config.mask.Statement.{statement}
