@@ -8,11 +8,11 @@ use borrow.Author.Tests.{eqb-true, eq-eqb, ne-eqb, not-false}
 use lib.ListN.{length, getD}
 use Rattle.octets.specs.Octets.{part}
 use Rattle.refusal.specs.Outcome.{refused, done, unless}
-use Rattle.refusal.proofs.Reasons.{Clear, done-clear, clear-done, append-clear, clear-append, refused-first, done-first}
+use Rattle.refusal.proofs.Reasons.{Clear, pass, stop, done-clear, clear-done, append-clear, clear-append, refused-first, done-first}
 use Rattle.config.specs.declared.Config.{Config}
 use Rattle.config.specs.Config.{good}
 use Rattle.bundle.specs.declared.Header.{Header}
-use Rattle.bundle.specs.Bundle.{size, payloadStart, payloadSize, bundleOf, dayOf, headerOf, headerReasons, readReasons, read, payload, writeReasons, write}
+use Rattle.bundle.specs.Bundle.{size, payloadStart, payloadSize, bundleOf, dayOf, headerOf, headerReasons, readReasons, read, payload, payloadPlace, writeReasons, write}
 
 -- a test that must not fail, passed
 passed : {b : Bool} → b ≡ true → not b ≡ false
@@ -56,14 +56,15 @@ readable-accepted w bundle r =
       ),
     )
 
--- the payload of an accepted bundle is its last 16 bytes
-pub accepted-payload : (w : Config) (bundle : List ℕ) (h : Header) → read w bundle ≡ done h → payload w bundle ≡ part payloadStart payloadSize bundle
-unfolding payload
-accepted-payload w bundle h e = rw e
+-- the payload of an accepted bundle is its last 16 bytes; of a refused one, the empty part at its start
+module _ (w : Config) (bundle : List ℕ) where
+  pub accepted-payload : (h : Header) → read w bundle ≡ done h → (payload w bundle ≡ part payloadStart payloadSize bundle) × (payloadPlace w bundle ≡ payloadStart)
+  unfolding payload payloadPlace
+  accepted-payload h e = (rw e, rw e)
 
-pub refused-payload : (w : Config) (bundle : List ℕ) (number : ℕ) → read w bundle ≡ refused number → payload w bundle ≡ []
-unfolding payload
-refused-payload w bundle number e = rw e
+  pub refused-payload : (number : ℕ) → read w bundle ≡ refused number → (payload w bundle ≡ []) × (payloadPlace w bundle ≡ 0)
+  unfolding payload payloadPlace
+  refused-payload number e = (rw e, rw e)
 
 pub record Writable (w : Config) (h : Header) (payload out : List ℕ) : Type 0 where
   pub configured : good w ≡ true
@@ -98,17 +99,21 @@ writable-written w h payload out r =
 -- why writing refuses, in the order of its checks
 module _ (w : Config) (h : Header) (payload out : List ℕ) where
   pub write-unconfigured : good w ≡ false → write w h payload out ≡ refused 1
-  unfolding write writeReasons unless
-  write-unconfigured e = rw e
+  unfolding write writeReasons
+  write-unconfigured e = stop 1 _ _ (rw e)
 
   pub write-header : (number : ℕ) → good w ≡ true → unless {A = Unit} (headerReasons w h) tt ≡ refused number → write w h payload out ≡ refused number
-  unfolding write writeReasons unless
-  write-header number g e = rw g (refused-first _ _ _ (headerReasons w h) number e)
+  unfolding write writeReasons
+  write-header number g e = pass 1 _ _ (passed g) ∙ refused-first _ _ _ (headerReasons w h) number e
 
   pub write-payload : good w ≡ true → unless {A = Unit} (headerReasons w h) tt ≡ done tt → (length payload ≡ payloadSize → ⊥) → write w h payload out ≡ refused 9
-  unfolding write writeReasons unless
-  write-payload g e l = rw g (done-first _ _ _ (headerReasons w h) tt e ∙ rw (ne-eqb _ _ l))
+  unfolding write writeReasons
+  write-payload g e l = pass 1 _ _ (passed g) ∙ done-first _ _ _ (headerReasons w h) tt e ∙ stop 9 _ _ (rw (ne-eqb _ _ l))
 
   pub write-out : good w ≡ true → unless {A = Unit} (headerReasons w h) tt ≡ done tt → length payload ≡ payloadSize → (length out ≡ size → ⊥) → write w h payload out ≡ refused 10
-  unfolding write writeReasons unless
-  write-out g e l r = rw g (done-first _ _ _ (headerReasons w h) tt e ∙ rw (eq-eqb _ _ l, ne-eqb _ _ r))
+  unfolding write writeReasons
+  write-out g e l r =
+      pass 1 _ _ (passed g)
+      ∙ done-first _ _ _ (headerReasons w h) tt e
+      ∙ pass 9 _ _ (passed (eq-eqb _ _ l))
+      ∙ stop 10 _ _ (rw (ne-eqb _ _ r))

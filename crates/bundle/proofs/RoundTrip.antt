@@ -6,12 +6,12 @@ use mathlib.Core.List.{List, _∷_, _++_}
 use Prim.Native.Nat.{ℕ, _<_, _^_}
 use native.Mathlib.Nat.{lt-of-lt-of-le}
 use native.Mathlib.Omega.{arith}
-use lib.ListN.{length, getD, drop, length-take, length-drop, take-append-drop}
+use lib.ListN.{length, getD, drop, length-drop, take-append-drop}
 use lib.Pow.{pow-mono}
 use lib.Seq.{drop-drop, take-all}
 use borrow.Author.Tests.{not-false}
 use Rattle.octets.specs.Octets.{Bytes, number, bytesOf, part}
-use Rattle.octets.proofs.Numbers.{number-bytesOf, number-part}
+use Rattle.octets.proofs.Numbers.{number-bytesOf, length-part, number-part}
 use Rattle.octets.proofs.Joined.{elements-part}
 use Rattle.signers.proofs.Members.{within-lt}
 use Rattle.refusal.specs.Outcome.{done}
@@ -67,36 +67,41 @@ unfolding headerReasons
 clear-signers w h g c =
     lt-of-lt-of-le (within-lt (h .signers) (w .n) (not-false _ (c .1 .1 .0))) (pow-mono (good-says w g .most))
 
+-- the reasons that a header gives depend on n alone
+peers-clear : (w r : Config) (h : Header) → r .n ≡ w .n → Clear (headerReasons w h) → Clear (headerReasons r h)
+unfolding headerReasons
+peers-clear w r h e c = rw e c
+
 -- "Fields written as a bundle read back the same,"
 pub written-reads-back : WrittenReadsBack
-written-reads-back w h content out bundle d e =
+written-reads-back w r h content out bundle peers d e =
     let (ok, same) = written-writable w h content out bundle e in
-    let back : headerOf (bundleOf (w .day) h content) ≡ h = header-bundle (w .day) h content (clear-signers w h (ok .configured) (ok .clear)) in
-    let reading : read w (bundleOf (w .day) h content) ≡ done h =
-    readable-accepted w (bundleOf (w .day) h content)
+    let written : List ℕ = bundleOf (w .day) h content in
+    let back : headerOf written ≡ h = header-bundle (w .day) h content (clear-signers w h (ok .configured) (ok .clear)) in
+    let reading : read r written ≡ done h =
+    readable-accepted r written
     (record {
-      configured = ok .configured;
+      configured = peers .configured;
       long = length-bundle (w .day) h content (ok .whole);
       sixth = reserved-bundle (w .day) h content .0;
       seventh = reserved-bundle (w .day) h content .1;
-      today = day-bundle (w .day) h content d;
-      clear = subst (λ (x : Header). Clear (headerReasons w x)) (sym back) (ok .clear);
+      today = day-bundle (w .day) h content d ∙ sym (peers .today);
+      clear = subst (λ (x : Header). Clear (headerReasons r x)) (sym back) (peers-clear w r h (peers .nodes) (ok .clear));
     })
     ∙ ap done back in
-    rw (← same) (reading, accepted-payload w (bundleOf (w .day) h content) h reading ∙ payload-bundle (w .day) h content (ok .whole))
+    rw (← same) (reading, accepted-payload r written h reading .0 ∙ payload-bundle (w .day) h content (ok .whole))
 
 -- "and an accepted bundle read and written again has the same 32 bytes."
 pub accepted-writes-back : AcceptedWritesBack
-accepted-writes-back w h bundle out bytes l e =
-    let (ok, same) = accepted-readable w bundle h e in
-    let rest : payload w bundle ≡ part payloadStart payloadSize bundle = accepted-payload w bundle h e in
+accepted-writes-back r w h bundle out peers bytes l e =
+    let (ok, same) = accepted-readable r bundle h e in
+    let rest : payload r bundle ≡ part payloadStart payloadSize bundle = accepted-payload r bundle h e .0 in
     let long : length bundle ≡ 32 = ok .long in
-    let whole : length (part payloadStart payloadSize bundle) ≡ payloadSize = simp (length-take, length-drop) (omega arith) in
-    writable-written w h (payload w bundle) out
+    writable-written w h (payload r bundle) out
     (record {
-      configured = ok .configured;
-      clear = subst (λ (x : Header). Clear (headerReasons w x)) same (ok .clear);
-      whole = ap length rest ∙ whole;
+      configured = peers .configured;
+      clear = peers-clear r w h (peers .nodes) (subst (λ (x : Header). Clear (headerReasons r x)) same (ok .clear));
+      whole = ap length rest ∙ length-part bundle payloadStart payloadSize (omega arith);
       room = l;
     })
-    ∙ ap done (rw (rest, ← same, ← ok .today) (together bundle bytes long (ok .sixth) (ok .seventh)))
+    ∙ ap done (rw (rest, ← same, peers .today, ← ok .today) (together bundle bytes long (ok .sixth) (ok .seventh)))

@@ -3,25 +3,34 @@
 -- of the functions' arguments say.
 -- Assumes nothing.
 use mathlib.Core.Path.{_≡_}
+use mathlib.Core.Bool.{true}
 use mathlib.Core.List.{List}
 use Prim.Native.Nat.{ℕ, _<_, _^_}
 use lib.ListN.{length}
 use Rattle.octets.specs.Octets.{Bytes}
 use Rattle.refusal.specs.Outcome.{done}
 use Rattle.config.specs.declared.Config.{Config}
+use Rattle.config.specs.Config.{good}
 use Rattle.bundle.specs.declared.Header.{Header}
 use Rattle.bundle.specs.Bundle.{size, read, payload, write}
+
+-- A table at which a bundle reads as it was written: good, and with the same n and day. The own numbers of writer and reader differ,
+-- but for a node that reads what it wrote.
+pub record Peers (writer reader : Config) : Type 0 where
+  pub configured : good reader ≡ true
+  pub nodes : reader .n ≡ writer .n
+  pub today : reader .day ≡ writer .day
 
 -- "Fields written as a bundle read back the same,"
 abbrev pub WrittenReadsBack : Type 0
 WrittenReadsBack =
-    (w : Config) (h : Header) (content out bundle : List ℕ) → w .day < 2 ^ 32
+    (w r : Config) (h : Header) (content out bundle : List ℕ) → Peers w r → w .day < 2 ^ 32
     → write w h content out ≡ done bundle
-    → (read w bundle ≡ done h) × (payload w bundle ≡ content)
+    → (read r bundle ≡ done h) × (payload r bundle ≡ content)
 
 -- "and an accepted bundle read and written again has the same 32 bytes."
 abbrev pub AcceptedWritesBack : Type 0
 AcceptedWritesBack =
-    (w : Config) (h : Header) (bundle out : List ℕ) → Bytes bundle → length out ≡ size
-    → read w bundle ≡ done h
-    → write w h (payload w bundle) out ≡ done bundle
+    (r w : Config) (h : Header) (bundle out : List ℕ) → Peers r w → Bytes bundle → length out ≡ size
+    → read r bundle ≡ done h
+    → write w h (payload r bundle) out ≡ done bundle

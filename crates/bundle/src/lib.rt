@@ -8,11 +8,11 @@ use refusal::Verdict;
 ghost use mathlib.Core.Path.{_≡_};
 ghost use mathlib.Core.Bool.{true};
 ghost use mathlib.Core.List.{_++_};
-ghost use Rattle.octets.specs.Octets.{bytesOf};
+ghost use Rattle.octets.specs.Octets.{bytesOf, further};
 ghost use Rattle.refusal.specs.Refusal.{verdictOf};
 ghost use Rattle.refusal.specs.Outcome.{unless, after, plain};
 ghost use Rattle.config.specs.Config.{good};
-ghost use Rattle.bundle.specs.Bundle.{encoded, headerReasons, read as readOf, readingOf, payload as payloadOf, write as writeOf};
+ghost use Rattle.bundle.specs.Bundle.{encoded, headerReasons, read as readOf, readingOf, payload as payloadOf, payloadPlace, write as writeOf};
 
 // A bundle's bytes.
 pub const SIZE: usize = 32;
@@ -66,6 +66,7 @@ pub fn read(config: Config, bundle: &[u8]) -> Reading
 // The payload as a part of the lent bundle; the empty part at its start where `read` refuses.
 pub fn payload(config: Config, bundle: &[u8]) -> &[u8]
     ensures { λ r. ⌜ now r ≡ payloadOf config (now (bundle .entry)) ⌝ }
+    ensures { λ r. ⌜ r .ptr ≡ further (payloadPlace config (now (bundle .entry))) (bundle .entry .ptr) ⌝ }
 {
     match read(config, bundle) {
         Reading::Accepted(_) => &bundle[16..32],

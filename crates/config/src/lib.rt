@@ -1,7 +1,8 @@
 // The configuration that the nodes of a system share but for `own`: document 01's table.
 //
 // Its methods take it by value and are defined for every value of every field. One that is not good
-// has quorum 0, mask 0 and place 0, so a caller that forgets to ask still finds no node and no slot.
+// has quorum 0, mask 0 and place 0. A caller asks `good` first: every set meets a quorum of 0, and 0 is
+// the place of a slot, too.
 ghost use mathlib.Core.Path.{_≡_};
 ghost use Rattle.config.specs.Config.{good, quorum, mask, place};
 

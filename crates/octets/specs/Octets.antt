@@ -24,6 +24,10 @@ bytesOf (suc k) x = x / 256 ^ k % 256 ∷ bytesOf k x
 abbrev pub part : ℕ → ℕ → List ℕ → List ℕ
 part i k xs = take k (drop i xs)
 
+-- the place in memory that is k bytes further on. A contract says by it where in a lent slice a part starts
+abbrev pub further : ℕ → ℕ × ℕ → ℕ × ℕ
+further k place = (place .0, k + place .1)
+
 -- the number of eight bytes; 0 for any other count
 unfoldable pub wordOf : List ℕ → ℕ
 wordOf xs = cond (eqb (length xs) 8) (number xs) 0

@@ -1,5 +1,5 @@
 // Runs document 01's own examples and writes what the library answers; the file `stdout` holds what the
-// paper says. First the ten tables under the quorum, then the bundles of the play's steps, written and
+// paper says. First the tables, then the bundles of the play's steps, written and
 // read back, then each reason for which reading refuses.
 use bundle::Header;
 use bundle::Reading;
@@ -25,6 +25,8 @@ fn tables() {
     table(5, 1, 1);
     table(64, 0, 32);
     table(65, 0, 0);
+    // Where rounding (n + t)/2 up would give 3.
+    table(5, 1, 0);
 }
 
 fn table(n: u8, t: u8, d: u8) {
@@ -130,8 +132,8 @@ fn refusals() {
     reading(play(1), &with_byte(15, 2));
     text(b"reasons of writing\n");
     let payload = b"sixteen bytes ok";
-    let mut out = [0u8; 32];
-    let mut short = [0u8; 31];
+    let mut out = [0xeeu8; 32];
+    let mut short = [0xeeu8; 31];
     writing(play(4), header(0, 0, 1), payload, &mut out);
     writing(play(1), header(4, 0, 1), payload, &mut out);
     writing(play(1), header(0, 16, 1), payload, &mut out);
@@ -139,6 +141,7 @@ fn refusals() {
     writing(play(1), header(0, 0, 2), payload, &mut out);
     writing(play(1), header(0, 0, 1), b"fifteen bytes..", &mut out);
     writing(play(1), header(0, 0, 1), payload, &mut short);
+    writing(play(1), header(0, 0, 1), payload, &mut out);
 }
 
 fn header(sender: u8, seq: u8, signers: u64) -> Header {
@@ -149,17 +152,20 @@ fn header(sender: u8, seq: u8, signers: u64) -> Header {
     }
 }
 
+// What writing answers, and what the outgoing bytes are then.
 fn writing(config: Config, header: Header, payload: &[u8], out: &mut [u8]) {
     match bundle::write(config, header, payload, out) {
         Verdict::Done => {
-            text(b"written\n");
+            text(b"written ");
         }
         Verdict::Refused(reason) => {
             text(b"refused ");
             decimal(refusal::number(reason) as u64);
-            text(b"\n");
+            text(b" ");
         }
     }
+    hex(out);
+    text(b"\n");
 }
 
 fn text(bytes: &[u8]) {

@@ -5,8 +5,9 @@ use mathlib.Core.Path.{_≡_, refl, sym, ap, _∙_}
 use Prim.Native.Nat.{ℕ, zero, suc, _+_, _*_, _≤_, _<_, zero-le}
 use native.Mathlib.Nat.{le-refl, le-step, lt-suc-self, zero-mul, add-mul}
 use native.Mathlib.Omega.{arith}
-use borrow.Author.Tests.{ltb-true, ltb-false}
-use lib.Dec.{ltb}
+use borrow.Author.Tests.{ltb-true, ltb-false, eqb-true, eqb-false, ne-eqb}
+use lib.Arith.{lt-of-le-ne}
+use lib.Dec.{ltb, eqb}
 use Rattle.signers.specs.Sets.{NodeSet, one, count, both, either}
 
 -- ---- what one node adds to a count
@@ -124,6 +125,23 @@ count-sum p (suc n) = ap (λ (k : ℕ). one (p n) + k) (count-sum p n)
 count-times : (p : NodeSet) (k n : ℕ) → sum (λ u. one (p u) * k) n ≡ count p n * k
 count-times p k n = sum-times (λ u. one (p u)) k n ∙ ap (λ (x : ℕ). x * k) (sym (count-sum p n))
 
+-- a set with no member counts nothing
+pub count-none : (p : NodeSet) (n : ℕ) → ((u : ℕ) → u < n → p u ≡ false) → count p n ≡ 0
+count-none p n h = count-same p (λ u. false) n h ∙ count-sum (λ u. false) n ∙ sum-zero n
+
+-- a set of one node counts 1
+pub count-single : (v n : ℕ) → v < n → count (λ u. eqb u v) n ≡ 1
+unfolding count
+count-single v zero h = absurd (omega arith)
+count-single v (suc n) h = go (count-single v n) (eqb n v) refl
+  where
+    go : (v < n → count (λ u. eqb u v) n ≡ 1) → (m : Bool) → eqb n v ≡ m → one (eqb n v) + count (λ u. eqb u v) n ≡ 1
+    go below true e =
+        let same : n ≡ v = eqb-true n v e in
+        let rest = count-none (λ u. eqb u v) n (λ u l. ne-eqb u v (omega arith)) in
+        rw (e, rest)
+    go below false e = let other = eqb-false n v e in rw (e, below (lt-of-le-ne (omega arith) (λ q. other (sym q))))
+
 -- ---- a node behind a count
 
 -- the larger of two sets has a node that the other lacks
@@ -140,7 +158,7 @@ count-exceeds p q n h =
 -- a set whose count is not 0 has a member
 pub some-member : (p : NodeSet) (n : ℕ) → 0 < count p n → (u : ℕ) × (u < n) × (p u ≡ true)
 some-member p n h =
-    let r = count-exceeds p (λ u. false) n (omega (arith, count-sum (λ u. false) n, sum-zero n)) in (r .0, r .1, r .2)
+    let r = count-exceeds p (λ u. false) n (omega (arith, count-none (λ u. false) n (λ u l. refl))) in (r .0, r .1, r .2)
 
 -- a set of more than t nodes has a correct one, where at most t are faulty
 pub some-correct : (p faulty : NodeSet) (n t : ℕ) → count faulty n ≤ t → t < count p n

@@ -1,20 +1,20 @@
 -- Words as sets of nodes: the members of a union and of an insertion, what it means that a word is within n, and that the count of a word's ones
 -- is the number of its members. From the definitions of specs/Signers.antt and the laws of counts, for words of any length n. Assumes nothing.
-use mathlib.Core.Bool.{Bool, true, false, cond, _&&_, _||_, true≢false}
+use mathlib.Core.Bool.{Bool, true, false, cond, _&&_, _||_, true≢false, and-false, or-false}
 use mathlib.Core.Logic.{_⊎_, inl, inr}
 use mathlib.Core.Path.{_≡_, refl, sym, ap, ap₂, _∙_}
 use Prim.Native.Nat.{ℕ, zero, suc, _+_, _*_, _/_, _%_, _^_, _-_, _≤_, _<_, zero-le, suc-le-suc}
-use native.Mathlib.Nat.{eq-zero-or-pos, zero-lt-suc, lt-of-lt-of-le, lt-of-not-le, one-mul, pow-suc, mod-lt, mul-mod-left, div-one, div-eq-of-lt, div-eq-of-lt-le}
+use native.Mathlib.Nat.{eq-zero-or-pos, zero-lt-suc, lt-of-lt-of-le, lt-of-not-le, lt-suc-self, one-mul, pow-suc, mod-lt, mul-mod-left, div-one, div-eq-of-lt, div-eq-of-lt-le}
 use native.Mathlib.Numerals.{one-add}
 use native.Mathlib.Omega.{arith}
-use borrow.Author.Tests.{ltb-true, lt-ltb, le-ltb}
+use borrow.Author.Tests.{ltb-true, lt-ltb, le-ltb, eqb-true}
 use lib.Bits.{bitAnd, bitOr, or-shr, or-mod, or-lt, and-shr, and-mod, and-lt}
 use lib.Count.{ones-step, ones-le, leading-top}
 use lib.Dec.{ltb, eqb, leb·suc-suc, eqb·suc-suc, eqb·zero-suc, eqb·suc-zero, lit<}
 use lib.Pow.{pow-pos, pow-mono, pow-lt, shr-shr, shl-exact}
 use Rattle.signers.specs.Sets.{NodeSet, one, count, both, either}
 use Rattle.signers.specs.Signers.{member, insert, union, size, within}
-use Rattle.signers.proofs.Counting.{count-same, count-first, count-either, quorums-meet}
+use Rattle.signers.proofs.Counting.{count-same, count-mono, count-none, count-single, count-first, count-either, quorums-meet}
 
 -- ---- the bits of a word
 
@@ -205,6 +205,38 @@ size-union a b =
     let united = size-union-count a b n (lt-within a n ha) (lt-within b n hb) in
     let common = size-of (bitAnd a b) n (both (member a) (member b)) (and-lt n a b ha hb) (λ u l. member-common a b u) in
     omega (arith, size-count a n ha, size-count b n hb, count-either (member a) (member b) n)
+
+-- a word whose members are all in another is no larger, so a union has no fewer members than either word
+pub size-mono : (a b n : ℕ) → a < 2 ^ n → b < 2 ^ n → ((u : ℕ) → u < n → member a u ≡ true → member b u ≡ true) → size a ≤ size b
+size-mono a b n ha hb h = omega (arith, size-count a n ha, size-count b n hb, count-mono (member a) (member b) n h)
+
+-- a node is one signer
+size-power : (v : ℕ) → size (2 ^ v) ≡ 1
+size-power v = size-of (2 ^ v) (suc v) (λ u. eqb u v) (pow-lt (lt-suc-self v)) (λ u l. member-power v u) ∙ count-single v (suc v) (lt-suc-self v)
+
+-- a node that is not yet in the word makes it larger by one,
+pub size-insert : (a v : ℕ) → v < 64 → member a v ≡ false → size (insert a v) ≡ suc (size a)
+size-insert a v h absent =
+    let n = a + suc v in
+    let below : bitAnd a (2 ^ v) < 2 ^ n = and-lt n a (2 ^ v) (lt-of-lt-of-le (below-power a) (pow-mono (omega arith))) (pow-lt (omega arith)) in
+    let common : size (bitAnd a (2 ^ v)) ≡ 0 = size-of (bitAnd a (2 ^ v)) n (λ u. false) below (λ u l. member-common a (2 ^ v) u ∙ apart u (eqb u v) refl) ∙ count-none (λ u. false) n (λ u l. refl) in
+    rw (insert-bit a v h) (omega (arith, size-union a (2 ^ v), size-power v))
+  where
+    apart : (u : ℕ) (b : Bool) → eqb u v ≡ b → (member a u && member (2 ^ v) u) ≡ false
+    apart u true e = rw (eqb-true u v e, absent)
+    apart u false e = rw (member-power v u, e) (and-false (member a u))
+
+-- and one that is in it leaves it as it is
+pub insert-known : (a v : ℕ) → v < 64 → member a v ≡ true → insert a v ≡ a
+insert-known a v h present =
+    let n = a + suc v in
+    let ha : a < 2 ^ n = lt-of-lt-of-le (below-power a) (pow-mono (omega arith)) in
+    let hv : 2 ^ v < 2 ^ n = pow-lt (omega arith) in
+    same-members (insert a v) a n (rw (insert-bit a v h) (or-lt n a (2 ^ v) ha hv)) ha (λ u l. member-insert a v u h ∙ joined u (eqb u v) refl)
+  where
+    joined : (u : ℕ) (b : Bool) → eqb u v ≡ b → (member a u || eqb u v) ≡ member a u
+    joined u true e = rw (eqb-true u v e, present)
+    joined u false e = rw e (or-false (member a u))
 
 -- two words that hold a quorum each share more than t nodes
 pub words-meet : (a b n t k : ℕ) → within a n ≡ true → within b n ≡ true → n + t < k + k → k ≤ size a → k ≤ size b

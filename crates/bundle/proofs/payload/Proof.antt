@@ -1,6 +1,8 @@
 -- `payload` meets its contract: an accepted bundle has 32 bytes. Assumes nothing.
 use mathlib.Core.Path.{_≡_, sym, ap, _∙_}
+use Rattle.octets.specs.Octets.{further}
 use Rattle.refusal.specs.Outcome.{done}
+use Prim.Native.Nat.{ℕ}
 use native.Mathlib.Omega.{arith}
 use Rattle.bundle.specs.Bundle.{read, readingOf}
 use Rattle.bundle.proofs.Accepted.{accepted-readable, accepted-payload, refused-payload}
@@ -39,10 +41,14 @@ part-result-end-2 : tie.Need-part-result-end-2
 part-result-end-2 c = search needs
 
 returns : tie.Need-returns
-returns c = sym (accepted-payload _ _ _ (accepted (c .before)))
+returns c =
+    let (same, start) = accepted-payload _ _ _ (accepted (c .before)) in
+    (sym same, ap (λ (k : ℕ). further k (c .before .before .before .before .before .args .bundle .ptr)) (sym start))
 
 returns-2 : tie.Need-returns-2
-returns-2 c = sym (refused-payload _ _ _ (sym (c .before .before .before .read .ensures) ∙ ap readingOf (c .before .enum-told2 .given .1)))
+returns-2 c =
+    let (same, start) = refused-payload _ _ _ (sym (c .before .before .before .read .ensures) ∙ ap readingOf (c .before .enum-told2 .given .1)) in
+    (sym same, ap (λ (k : ℕ). further k (c .before .before .before .before .before .args .bundle .ptr)) (sym start))
 
 pub payload-spec : {M : Type 1} → statement M
 payload-spec =

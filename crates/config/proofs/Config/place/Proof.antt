@@ -1,5 +1,6 @@
 -- `Config::place` meets its contract, by the tests of `good` and of the range. Assumes nothing.
 use mathlib.Core.Path.{sym, _∙_}
+use native.Mathlib.Omega.{arith}
 use borrow.Author.Tests.{not-true, not-false, le-ltb, lt-ltb}
 use Rattle.config.specs.Config.{place, inRange}
 use borrow.Author.Needs.{needs}
@@ -35,7 +36,7 @@ mul-result-2 c = search needs
 
 returns-4 : tie.Need-returns-4
 unfolding place inRange
-returns-4 c = simp (sym (c .before .before .before .before .good2 .ensures) ∙ not-false _ (c .before .before .before .if1 .left), lt-ltb _ _ (c .before .if2 .left), lt-ltb _ _ (c .if3 .left))
+returns-4 c = simp (sym (c .before .before .before .before .good2 .ensures) ∙ not-false _ (c .before .before .before .if1 .left), lt-ltb _ _ (c .before .if2 .left), lt-ltb _ _ (c .if3 .left)) (omega arith)
 
 pub place-spec : {M : Type 1} → statement M
 place-spec =

@@ -1,5 +1,6 @@
 -- `Config::quorum` meets its contract, by the test of `good`. Assumes nothing.
 use mathlib.Core.Path.{sym, _∙_}
+use native.Mathlib.Omega.{arith}
 use borrow.Author.Tests.{not-true, not-false}
 use Rattle.config.specs.Config.{quorum}
 use borrow.Author.Needs.{needs}
@@ -27,7 +28,7 @@ add-result-2 c = search needs
 
 returns-2 : tie.Need-returns-2
 unfolding quorum
-returns-2 c = rw (sym (c .before .before .before .good2 .ensures) ∙ not-false _ (c .before .before .if1 .left))
+returns-2 c = rw (sym (c .before .before .before .good2 .ensures) ∙ not-false _ (c .before .before .if1 .left)) (omega arith)
 
 pub quorum-spec : {M : Type 1} → statement M
 quorum-spec =
