@@ -1,6 +1,6 @@
--- What is known of a bundle that reading accepts and of fields that writing accepts, and the facts that make each accept.
+-- What reading and writing accept and refuse, and that an answer is known by the paper's number and values.
 -- Assumes nothing.
-use mathlib.Core.Path.{_≡_, _∙_}
+use mathlib.Core.Path.{_≡_, _∙_, sym, ap}
 use mathlib.Core.Bool.{Bool, true, false, not, and-eq-true-iff}
 use mathlib.Core.List.{List, []}
 use Prim.Native.Nat.{ℕ}
@@ -8,11 +8,15 @@ use borrow.Author.Tests.{eqb-true, eq-eqb, ne-eqb, not-false}
 use lib.ListN.{length, getD}
 use Rattle.octets.specs.Octets.{part}
 use Rattle.refusal.specs.Outcome.{refused, done, unless}
-use Rattle.refusal.proofs.Reasons.{Clear, pass, stop, done-clear, clear-done, append-clear, clear-append, refused-first, done-first}
+use Rattle.refusal.specs.Refusal.{numberOf}
+use Rattle.refusal.proofs.Unique.{number-one, refused-number}
+use Rattle.refusal.proofs.Reasons.{refused-not-done, Clear, pass, stop, done-clear, clear-done, append-clear, clear-append, refused-first, done-first}
 use Rattle.config.specs.declared.Config.{Config}
 use Rattle.config.specs.Config.{good}
 use Rattle.bundle.specs.declared.Header.{Header}
-use Rattle.bundle.specs.Bundle.{size, payloadStart, payloadSize, bundleOf, dayOf, headerOf, headerReasons, readReasons, read, payload, payloadPlace, writeReasons, write}
+use Rattle.bundle.specs.declared.Reading.{Reading}
+use Rattle.bundle.specs.declared.Reading.the-variants.{Accepted, Refused}
+use Rattle.bundle.specs.Bundle.{readingOf, size, payloadStart, payloadSize, bundleOf, dayOf, headerOf, headerReasons, readReasons, read, payload, payloadPlace, writeReasons, write}
 
 -- a test that must not fail, passed
 passed : {b : Bool} → b ≡ true → not b ≡ false
@@ -55,6 +59,13 @@ readable-accepted w bundle r =
         ),
       ),
     )
+
+-- a reading is known by the paper's number and values, so the contract of `read` leaves one answer
+pub reading-one : (a b : Reading) → readingOf a ≡ readingOf b → a ≡ b
+reading-one (Accepted h) (Accepted k) e = let same : h ≡ k = cc in ap Accepted same
+reading-one (Accepted h) (Refused s) e = absurd (refused-not-done (numberOf s) h (sym e))
+reading-one (Refused r) (Accepted k) e = absurd (refused-not-done (numberOf r) k e)
+reading-one (Refused r) (Refused s) e = ap Refused (number-one r s (refused-number (numberOf r) (numberOf s) e))
 
 -- the payload of an accepted bundle is its last 16 bytes; of a refused one, the empty part at its start
 module _ (w : Config) (bundle : List ℕ) where

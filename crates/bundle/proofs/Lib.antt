@@ -2,3 +2,4 @@
 pub mod Fields
 pub mod Accepted
 pub mod RoundTrip
+pub mod Example

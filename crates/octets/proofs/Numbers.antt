@@ -1,14 +1,14 @@
 -- Numbers and the bytes that write them, for any count of bytes: each is the other's inverse.
 -- Assumes nothing.
 use mathlib.Core.Path.{_≡_, refl, sym, ap, ap₂, _∙_, subst}
-use mathlib.Core.Bool.{Bool, true, false}
+use mathlib.Core.Bool.{Bool, true, false, and-eq-true-iff}
 use mathlib.Core.List.{List, [], _∷_, _++_, reverse, reverse-cons}
 use Prim.Native.Nat.{ℕ, zero, suc, _+_, _*_, _/_, _%_, _^_, _≤_, _<_}
 use native.Mathlib.Nat.{zero-add, suc-add, one-le-pow, pow-succ', mul-comm, mul-assoc, add-mul, add-assoc, div-div-eq-div-mul, mod-lt, mod-eq-of-lt, zero-mul, mul-add-div-right, mul-add-mod-self-right}
 use native.Mathlib.Omega.{arith}
 use lib.Arith.{digits-lt, digits-div, digits-mod, mod-mul}
 use lib.Dec.{ltb, lit<}
-use lib.Pow.{pow-add}
+use lib.Pow.{pow-add, areBytes}
 use lib.ListN.{length, getD, take, drop, length-append, length-take, length-drop, List·getD-eq-default}
 use lib.Seq.{take-add, getD-take, getD-drop}
 use borrow.Author.Tests.{ltb-true, ltb-false}
@@ -28,6 +28,12 @@ unfolding bytesOf
 bytes-bytesOf zero x i = lit< tt
 bytes-bytesOf (suc k) x zero = mod-lt (x / 256 ^ k) (lit< tt)
 bytes-bytesOf (suc k) x (suc i) = bytes-bytesOf k x i
+
+-- a written-out list of bytes, by one test that is computed
+pub bytes-test : (xs : List ℕ) → areBytes xs ≡ true → Bytes xs
+bytes-test [] e i = lit< tt
+bytes-test (x ∷ xs) e zero = ltb-true x 256 (and-eq-true-iff (ltb x 256) (areBytes xs) .0 e .0)
+bytes-test (x ∷ xs) e (suc i) = bytes-test xs (and-eq-true-iff (ltb x 256) (areBytes xs) .0 e .1) i
 
 -- lists of bytes, joined, turned round and cut
 pub bytes-append : (xs ys : List ℕ) → Bytes xs → Bytes ys → Bytes (xs ++ ys)

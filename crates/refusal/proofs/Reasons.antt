@@ -24,7 +24,8 @@ module _ {A : Type 0} where
   unfolding unless
   stop number rest work e = rw e
 
-  refused-not-done : (number : ℕ) (work : A) → refused number ≡ done work → ⊥
+  -- a refusal is not the work
+  pub refused-not-done : (number : ℕ) (work : A) → refused number ≡ done work → ⊥
   refused-not-done number work e = let z : _≡_ {A = ℕ} 0 1 = cc in omega arith
 
   pub clear-done : (reasons : List Reason) (work : A) → Clear reasons → unless reasons work ≡ done work

@@ -20,7 +20,7 @@ module _ {A : Type 0} where
   unless [] work = done work
   unless ((number if applies) ∷ rest) work = cond applies (refused number) (unless rest work)
 
-  -- what a buffer holds afterwards: the result of the work; "A refusal .. changes no byte."
+  -- what there is afterwards: the result of the work, and as before after a refusal. "A refusal .. changes no byte."
   abbrev pub after : {B : Type 0} → Outcome A → (A → B) → B → B
   after (refused number) result before = before
   after (done work) result before = result work
