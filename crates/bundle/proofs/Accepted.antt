@@ -16,7 +16,7 @@ use Rattle.config.specs.Config.{good}
 use Rattle.bundle.specs.declared.Header.{Header}
 use Rattle.bundle.specs.declared.Reading.{Reading}
 use Rattle.bundle.specs.declared.Reading.the-variants.{Accepted, Refused}
-use Rattle.bundle.specs.Bundle.{readingOf, size, payloadStart, payloadSize, bundleOf, dayOf, headerOf, headerReasons, readReasons, read, payload, payloadPlace, writeReasons, write}
+use Rattle.bundle.specs.Bundle.{readingOf, size, payloadStart, payloadSize, emptyStart, bundleOf, dayOf, headerOf, headerReasons, readReasons, read, payload, payloadPlace, writeReasons, write}
 
 -- a test that must not fail, passed
 passed : {b : Bool} → b ≡ true → not b ≡ false
@@ -73,7 +73,7 @@ module _ (w : Config) (bundle : List ℕ) where
   unfolding payload payloadPlace
   accepted-payload h e = (rw e, rw e)
 
-  pub refused-payload : (number : ℕ) → read w bundle ≡ refused number → (payload w bundle ≡ []) × (payloadPlace w bundle ≡ 0)
+  pub refused-payload : (number : ℕ) → read w bundle ≡ refused number → (payload w bundle ≡ []) × (payloadPlace w bundle ≡ emptyStart)
   unfolding payload payloadPlace
   refused-payload number e = (rw e, rw e)
 

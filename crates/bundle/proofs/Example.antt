@@ -21,16 +21,16 @@ use Rattle.bundle.proofs.RoundTrip.{written-reads-back, accepted-writes
 abbrev pub play : ℕ → Config
 play own = record { n = 4; t = 1; d = 0; own = own; day = 7 }
 
-abbrev pub announced : Header
-announced = record { sender = 0; seq = 0; signers = 1 }
+abbrev pub header : Header
+header = record { sender = 0; seq = 0; signers = 1 }
 
-abbrev pub body : List ℕ
-body = 0 ∷ 1 ∷ 2 ∷ 3 ∷ 4 ∷ 5 ∷ 6 ∷ 7 ∷ 8 ∷ 9 ∷ 10 ∷ 11 ∷ 12 ∷ 13 ∷ 14 ∷ 15 ∷ []
+abbrev pub content : List ℕ
+content = 0 ∷ 1 ∷ 2 ∷ 3 ∷ 4 ∷ 5 ∷ 6 ∷ 7 ∷ 8 ∷ 9 ∷ 10 ∷ 11 ∷ 12 ∷ 13 ∷ 14 ∷ 15 ∷ []
 
 abbrev pub bytes : List ℕ
-bytes = 0 ∷ 0 ∷ 0 ∷ 7 ∷ 0 ∷ 0 ∷ 0 ∷ 0 ∷ 0 ∷ 0 ∷ 0 ∷ 0 ∷ 0 ∷ 0 ∷ 0 ∷ 1 ∷ body
+bytes = 0 ∷ 0 ∷ 0 ∷ 7 ∷ 0 ∷ 0 ∷ 0 ∷ 0 ∷ 0 ∷ 0 ∷ 0 ∷ 0 ∷ 0 ∷ 0 ∷ 0 ∷ 1 ∷ content
 
-pub written : write (play 0) announced body (replicate 32 0) ≡ done bytes
+pub written : write (play 0) header content (replicate 32 0) ≡ done bytes
 unfolding write writeReasons headerReasons bundleOf bytesOf unless good within member
 written = refl
 
@@ -41,8 +41,8 @@ one-good : good (play 1) ≡ true
 unfolding good
 one-good = refl
 
-pub readBack : (read (play 1) bytes ≡ done announced) × (payload (play 1) bytes ≡ body)
-readBack = written-reads-back (play 0) (play 1) announced body (replicate 32 0) bytes (peers 0 1 one-good) (lit< tt) written
+pub readBack : (read (play 1) bytes ≡ done header) × (payload (play 1) bytes ≡ content)
+readBack = written-reads-back (play 0) (play 1) header content (replicate 32 0) bytes (peers 0 1 one-good) (lit< tt) written
 
-pub writtenAgain : write (play 1) announced (payload (play 1) bytes) (replicate 32 0) ≡ done bytes
-writtenAgain = accepted-writes-back (play 1) (play 1) announced bytes (replicate 32 0) (peers 1 1 one-good) (bytes-test bytes refl) refl (readBack .0)
+pub writtenAgain : write (play 1) header (payload (play 1) bytes) (replicate 32 0) ≡ done bytes
+writtenAgain = accepted-writes-back (play 1) (play 1) header bytes (replicate 32 0) (peers 1 1 one-good) (bytes-test bytes refl) refl (readBack .0)

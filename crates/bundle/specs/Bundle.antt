@@ -63,8 +63,11 @@ unfoldable pub payload : Config → List ℕ → List ℕ
 payload w bundle = after (read w bundle) (λ h. part payloadStart payloadSize bundle) []
 
 -- where in the bundle that part starts; the empty part is at the bundle's start
+abbrev pub emptyStart : ℕ
+emptyStart = 0
+
 unfoldable pub payloadPlace : Config → List ℕ → ℕ
-payloadPlace w bundle = after (read w bundle) (λ h. payloadStart) 0
+payloadPlace w bundle = after (read w bundle) (λ h. payloadStart) emptyStart
 
 -- 1, 5-8, then 9 body not 16 bytes and 10 outgoing buffer not 32 bytes
 unfoldable pub writeReasons : Config → Header → List ℕ → List ℕ → List Reason

@@ -14,12 +14,11 @@ use Rattle.config.specs.Config.{good}
 use Rattle.bundle.specs.declared.Header.{Header}
 use Rattle.bundle.specs.Bundle.{size, read, payload, write}
 
--- A table at which a bundle reads as it was written: good, and with the same n and day. The own numbers of writer and reader differ,
--- but for a node that reads what it wrote.
-pub record Peers (writer reader : Config) : Type 0 where
-  pub configured : good reader ≡ true
-  pub nodes : reader .n ≡ writer .n
-  pub today : reader .day ≡ writer .day
+-- Two nodes that hand each other bundles: the second's table is good and has the first's n and day. Own number, t and d may differ.
+pub record Peers (first second : Config) : Type 0 where
+  pub configured : good second ≡ true
+  pub nodes : second .n ≡ first .n
+  pub today : second .day ≡ first .day
 
 -- "Fields written as a bundle read back the same,"
 abbrev pub WrittenReadsBack : Type 0

@@ -1,7 +1,7 @@
 -- What `good` says, and what of the quorum the protocol's argument rests on. Callers go by these laws and not by the formulas,
 -- so that another quorum, chosen within the same bounds, proves them anew here alone.
 -- Assumes nothing.
-use mathlib.Core.Path.{_≡_, _∙_, refl, ap, subst}
+use mathlib.Core.Path.{_≡_, _∙_, refl, ap}
 use mathlib.Core.Bool.{Bool, true, false, and-eq-true-iff}
 use Prim.Native.Nat.{ℕ, _+_, _-_, _*_, _/_, _^_, _≤_, _<_}
 use native.Mathlib.Nat.{not-le-of-lt}
@@ -12,8 +12,7 @@ use borrow.Author.Tests.{lt-ltb, le-leb, leb-true, ltb-true}
 use Rattle.config.specs.declared.Config.{Config}
 use Rattle.signers.specs.Sets.{NodeSet, count}
 use Rattle.signers.specs.Signers.{member, within, size}
-use Rattle.signers.proofs.Counting.{quorums-share-correct as share}
-use Rattle.signers.proofs.Members.{lt-within, within-lt, member-ones, size-count}
+use Rattle.signers.proofs.Members.{lt-within, within-lt, member-ones, words-share-correct}
 use Rattle.config.specs.Config.{good, quorum, mask}
 
 -- The four bounds of a good configuration.
@@ -79,9 +78,7 @@ pub quorums-share-correct : (w : Config) (a b : ℕ) (faulty : NodeSet) → good
     → count faulty (w .n) ≤ w .t → quorum w ≤ size a → quorum w ≤ size b
     → (u : ℕ) × (u < w .n) × (member a u ≡ true) × (member b u ≡ true) × (faulty u ≡ false)
 quorums-share-correct w a b faulty g ha hb few qa qb =
-    share (member a) (member b) faulty (w .n) (w .t) (quorum w) (quorum-intersects w g) few
-    (subst (λ (k : ℕ). quorum w ≤ k) (size-count a (w .n) (within-lt a (w .n) ha)) qa)
-    (subst (λ (k : ℕ). quorum w ≤ k) (size-count b (w .n) (within-lt b (w .n) hb)) qb)
+    words-share-correct a b (w .n) (w .t) (quorum w) faulty ha hb (quorum-intersects w g) few qa qb
 
 -- the correct nodes that every sending reaches are a quorum by themselves: q is at most n - t - d
 pub quorum-reachable : (w : Config) → good w ≡ true → quorum w + w .t + w .d ≤ w .n

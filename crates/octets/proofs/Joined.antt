@@ -10,7 +10,7 @@ use lib.Pow.{shl-exact, pow-add}
 use lib.Dec.{lit≤}
 use lib.ListN.{length, getD, take, drop}
 use lib.Seq.{drop-cons, take-all}
-use borrow.Author.Tests.{eq-eqb}
+use borrow.Author.Tests.{eq-eqb, ne-eqb}
 use Rattle.octets.specs.Octets.{Bytes, number, bytesOf, part, wordOf}
 use Rattle.octets.proofs.Numbers.{number-lt, bytesOf-number, length-part, number-part, bytes-reverse, bytes-bytesOf}
 
@@ -79,6 +79,11 @@ elements-part xs i (suc k) h =
 pub word-number : (xs : List ℕ) → length xs ≡ 8 → wordOf xs ≡ number xs
 unfolding wordOf
 word-number xs l = rw (eq-eqb (length xs) 8 l)
+
+-- is 0 for any other count,
+pub word-other : (xs : List ℕ) → (length xs ≡ 8 → ⊥) → wordOf xs ≡ 0
+unfolding wordOf
+word-other xs h = rw (ne-eqb (length xs) 8 h)
 
 -- and is written by them
 pub word-bytes : (xs : List ℕ) (i : ℕ) → i + 8 ≤ length xs → Bytes xs → bytesOf 8 (wordOf (part i 8 xs)) ≡ part i 8 xs

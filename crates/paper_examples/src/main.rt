@@ -1,6 +1,6 @@
 // Runs document 01's own examples and writes what the library answers; the file `stdout` holds what the
-// paper says. First the tables, then the bundles of the play's steps, written and
-// read back, then each reason for which reading refuses.
+// paper says it is, and for the bundles what its layout makes of the play's steps. First the tables,
+// then the bundles, written and read back, then each reason for which reading and writing refuse.
 use bundle::Header;
 use bundle::Reading;
 use config::Config;
@@ -51,7 +51,7 @@ fn table(n: u8, t: u8, d: u8) {
     }
 }
 
-// The play's table at one of its units.
+// The play's configuration at one of its nodes.
 fn play(own: u8) -> Config {
     Config {
         n: 4,
@@ -62,7 +62,7 @@ fn play(own: u8) -> Config {
     }
 }
 
-// The bundles of the play's steps, by step: unit, then the bytes, then what that unit reads in them.
+// The bundles of the play's steps, by step: node, then the bytes, then what that node reads in them.
 fn bundles() {
     text(b"step unit bundle reading\n");
     step(2, 1, 1);
@@ -71,18 +71,36 @@ fn bundles() {
     step(5, 2, 7);
     step(6, 3, 2);
     step(7, 0, 7);
+    text(b"signers of step 5: ");
+    decimal(heard(&with_byte(15, 7)) as u64);
+    text(b"\n");
+}
+
+// Four nodes, one of which may lie; we are node 1, on day 7.
+fn heard(bytes: &[u8]) -> u32 {
+    let config = Config {
+        n: 4,
+        t: 1,
+        d: 0,
+        own: 1,
+        day: 7,
+    };
+    match bundle::read(config, bytes) {
+        Reading::Accepted(header) => signers::size(header.signers),
+        Reading::Refused(reason) => refusal::number(reason),
+    }
 }
 
 // The signers are put in afterwards: step 6 lacks its sender's signature, and `write` would refuse it.
-fn step(place: u64, unit: u8, signers: u8) {
+fn step(place: u64, node: u8, signers: u8) {
     let bytes = with_byte(15, signers);
     decimal(place);
     text(b" ");
-    decimal(unit as u64);
+    decimal(node as u64);
     text(b" ");
     hex(&bytes);
     text(b" ");
-    reading(play(unit), &bytes);
+    reading(play(node), &bytes);
 }
 
 // The bundle of step 2 with another byte at one place.

@@ -54,12 +54,6 @@ refused-again [] first second number e = absurd (refused-not-done number first (
 refused-again ((other if true) ∷ rest) first second number e = cc
 refused-again ((other if false) ∷ rest) first second number e = refused-again rest first second number e
 
-pub plain-unless : {A : Type 0} (reasons : List Reason) (work : A) → plain (unless reasons work) ≡ unless reasons tt
-unfolding unless
-plain-unless [] work = refl
-plain-unless ((number if true) ∷ rest) work = refl
-plain-unless ((number if false) ∷ rest) work = plain-unless rest work
-
 -- a refusal says its number and changes nothing
 pub no-effect : {A B : Type 0} (outcome : Outcome A) (result : A → B) (before : B) (number : ℕ) → outcome ≡ refused number
     → (refused number ≡ plain outcome) × (before ≡ after outcome result before)

@@ -13,8 +13,8 @@ use Rattle.refusal.specs.declared.Verdict.{Verdict}
 use Rattle.refusal.specs.declared.Verdict.the-variants.{Done, Refused}
 
 -- the reasons by their numbers; a number of none stands for the first
-table : List Refusal
-table =
+byNumber : List Refusal
+byNumber =
     BadConfig
     ∷ BadConfig
     ∷ BundleLength
@@ -44,8 +44,8 @@ table =
     ∷ NotDelivered
     ∷ []
 
-found : (r : Refusal) → getD table (numberOf r) BadConfig ≡ r
-unfolding table
+found : (r : Refusal) → getD byNumber (numberOf r) BadConfig ≡ r
+unfolding byNumber
 found BadConfig = refl
 found BundleLength = refl
 found ReservedBytes = refl
@@ -65,7 +65,7 @@ found NoFreeSlot = refl
 found NotDelivered = refl
 
 pub number-one : (a b : Refusal) → numberOf a ≡ numberOf b → a ≡ b
-number-one a b e = sym (found a) ∙ ap (λ (k : ℕ). getD table k BadConfig) e ∙ found b
+number-one a b e = sym (found a) ∙ ap (λ (k : ℕ). getD byNumber k BadConfig) e ∙ found b
 
 pub refused-number : {A : Type 0} (a b : ℕ) → _≡_ {A = Outcome A} (refused a) (refused b) → a ≡ b
 refused-number a b e = cc

@@ -14,7 +14,7 @@ use lib.Dec.{ltb, eqb, leb·suc-suc, eqb·suc-suc, eqb·zero-suc, eqb·suc-zero,
 use lib.Pow.{pow-pos, pow-mono, pow-lt, shr-shr, shl-exact}
 use Rattle.signers.specs.Sets.{NodeSet, one, count, both, either}
 use Rattle.signers.specs.Signers.{member, insert, union, size, within}
-use Rattle.signers.proofs.Counting.{count-same, count-mono, count-none, count-single, count-first, count-either, quorums-meet}
+use Rattle.signers.proofs.Counting.{count-same, count-mono, count-none, count-single, count-first, count-either, quorums-share-correct}
 
 -- ---- the bits of a word
 
@@ -238,10 +238,10 @@ insert-known a v h present =
     joined u true e = rw (eqb-true u v e, present)
     joined u false e = rw e (or-false (member a u))
 
--- two words that hold a quorum each share more than t nodes
-pub words-meet : (a b n t k : ℕ) → within a n ≡ true → within b n ≡ true → n + t < k + k → k ≤ size a → k ≤ size b
-    → t < count (both (member a) (member b)) n
-words-meet a b n t k ha hb big la lb =
+-- two words that hold a quorum each share a correct node
+pub words-share-correct : (a b n t k : ℕ) (faulty : NodeSet) → within a n ≡ true → within b n ≡ true → n + t < k + k → count faulty n ≤ t
+    → k ≤ size a → k ≤ size b → (u : ℕ) × (u < n) × (member a u ≡ true) × (member b u ≡ true) × (faulty u ≡ false)
+words-share-correct a b n t k faulty ha hb big few la lb =
     let ca = size-count a n (within-lt a n ha) in
     let cb = size-count b n (within-lt b n hb) in
-    quorums-meet (member a) (member b) n t k big (omega arith) (omega arith)
+    quorums-share-correct (member a) (member b) faulty n t k big few (omega arith) (omega arith)

@@ -1,14 +1,12 @@
 -- `word` meets its contract: a slice of another length, or eight bytes joined. Assumes nothing.
-use borrow.Author.Tests.{ne-eqb}
-use Rattle.octets.specs.Octets.{wordOf}
-use Rattle.octets.proofs.Joined.{joined-word}
+use mathlib.Core.Path.{sym}
+use Rattle.octets.proofs.Joined.{joined-word, word-other}
 use borrow.Author.Needs.{needs}
 use Rattle.octets.proofs.word.Statement.{statement}
 use Rattle.octets.proofs.word.Tie as tie
 
 returns : tie.Need-returns
-unfolding wordOf
-returns c = rw (ne-eqb _ _ (c .if1 .taken))
+returns c = sym (word-other _ (c .if1 .taken))
 
 shared-slice-read-wide : tie.Need-shared-slice-read-wide
 shared-slice-read-wide c = search needs
