@@ -36,15 +36,15 @@ slot-bytes day sender seq hs hk =
     ∙ ap₂ _++_ (ap (bytesOf 4) high)
     (ap (bytesOf 4) sum ∙ bytesOf-low 4 day (number low) ∙ bytesOf-number low (rest-bytes sender seq hs hk))
 
--- four words filled in are an encoded bundle
-pub filled-encoded : (day : ℕ) (h : Header) (high low : ℕ) (out result : List ℕ) → h .sender < 256 → h .seq < 256
-    → result ≡ filled out (slotWord day (h .sender) (h .seq)) (h .signers) high low
+-- four words filled in are an encoded bundle, where the first is the slot's word
+pub filled-encoded : (day : ℕ) (h : Header) (slot high low : ℕ) (out result : List ℕ) → result ≡ filled out slot (h .signers) high low
+    → slot ≡ slotWord day (h .sender) (h .seq) → h .sender < 256 → h .seq < 256
     → result ≡ encoded day h (bytesOf 8 high ++ bytesOf 8 low) out
 unfolding filled words encoded bundleOf
-filled-encoded day h high low out result hs hk e =
+filled-encoded day h slot high low out result e first hs hk =
     e
     ∙ ap (λ (r : List ℕ). cond (eqb (length out) size) r out)
-    (ap (λ (r : List ℕ). r ++ (bytesOf 8 (h .signers) ++ (bytesOf 8 high ++ bytesOf 8 low))) (slot-bytes day (h .sender) (h .seq) hs hk)
+    (ap (λ (r : List ℕ). r ++ (bytesOf 8 (h .signers) ++ (bytesOf 8 high ++ bytesOf 8 low))) (ap (bytesOf 8) first ∙ slot-bytes day (h .sender) (h .seq) hs hk)
     ∙ append-assoc (bytesOf 4 day) _ _)
 
 -- the first word: the day above, the two reserved bytes below

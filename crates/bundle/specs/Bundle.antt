@@ -62,10 +62,11 @@ read w bundle = unless (readReasons w bundle) (headerOf bundle)
 unfoldable pub payload : Config → List ℕ → List ℕ
 payload w bundle = after (read w bundle) (λ h. part payloadStart payloadSize bundle) []
 
--- where in the bundle that part starts; the empty part is at the bundle's start
+-- the empty part is the one at the bundle's start
 abbrev pub emptyStart : ℕ
 emptyStart = 0
 
+-- where in the bundle the part starts
 unfoldable pub payloadPlace : Config → List ℕ → ℕ
 payloadPlace w bundle = after (read w bundle) (λ h. payloadStart) emptyStart
 

@@ -44,20 +44,18 @@ pub fn read(config: Config, bundle: &[u8]) -> Reading
         return Reading::Refused(Refusal::BundleLength);
     }
     let slot = octets::word(&bundle[0..8]);
-    let header = Header {
-        sender: bundle[4],
-        seq: bundle[5],
-        signers: octets::word(&bundle[8..16]),
-    };
-    // Asked for here and answered last: after two more tests the compiler would not inline the call.
-    let checked = check(config, header);
     if slot % 0x1_0000 != 0 {
         return Reading::Refused(Refusal::ReservedBytes);
     }
     if slot / 0x1_0000_0000 != config.day as u64 {
         return Reading::Refused(Refusal::OtherDay);
     }
-    match checked {
+    let header = Header {
+        sender: bundle[4],
+        seq: bundle[5],
+        signers: octets::word(&bundle[8..16]),
+    };
+    match check(config, header) {
         Verdict::Done => Reading::Accepted(header),
         Verdict::Refused(reason) => Reading::Refused(reason),
     }

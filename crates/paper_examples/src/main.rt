@@ -1,6 +1,6 @@
 // Runs document 01's own examples and writes what the library answers; the file `stdout` holds what the
-// paper says it is, and for the bundles what its layout makes of the play's steps. First the tables,
-// then the bundles, written and read back, then each reason for which reading and writing refuse.
+// paper says, and for the bundles what its layout makes of the play's steps. First the tables, then the
+// bundles, written and read back, then each reason for which reading and writing refuse.
 use bundle::Header;
 use bundle::Reading;
 use config::Config;

@@ -1,9 +1,9 @@
 -- Each number is one reason's, so that a contract which gives the number of an answer leaves one answer.
 -- Assumes nothing.
 use mathlib.Core.Path.{_≡_, refl, sym, ap, _∙_}
-use mathlib.Core.List.{List, [], _∷_}
+use mathlib.Core.List.{List, [], _∷_, _++_}
 use Prim.Native.Nat.{ℕ}
-use lib.ListN.{getD}
+use lib.ListN.{getD, replicate}
 use Rattle.refusal.specs.Outcome.{Outcome, refused}
 use Rattle.refusal.specs.Refusal.{numberOf, verdictOf}
 use Rattle.refusal.proofs.Reasons.{refused-not-done}
@@ -26,23 +26,15 @@ byNumber =
     ∷ SenderUnsigned
     ∷ PayloadLength
     ∷ OutLength
-    ∷ BadConfig
-    ∷ BadConfig
-    ∷ BadConfig
-    ∷ BadConfig
-    ∷ BadConfig
-    ∷ BadConfig
-    ∷ BadConfig
-    ∷ BadConfig
-    ∷ BadConfig
-    ∷ RecordsLength
+    ∷ (replicate 9 BadConfig
+    ++ (RecordsLength
     ∷ MalformedRecord
     ∷ AlreadyDelivered
     ∷ OwnSignatureUnknown
     ∷ OtherPayload
     ∷ NoFreeSlot
     ∷ NotDelivered
-    ∷ []
+    ∷ []))
 
 found : (r : Refusal) → getD byNumber (numberOf r) BadConfig ≡ r
 unfolding byNumber

@@ -36,7 +36,7 @@ same-length c = search needs
 returns : tie.Need-returns
 returns c = let sender : c .before .before .before .before .before .before .before .args .header .sender < 256 = omega arith in
     let seq : c .before .before .before .before .before .before .before .args .header .seq < 256 = omega arith in
-    filled-encoded _ _ _ _ _ _ sender seq (c .before .before .fill .ensures)
+    filled-encoded (c .before .before .before .before .before .before .before .args .day) (c .before .before .before .before .before .before .before .args .header) _ _ _ _ _ (c .before .before .fill .ensures) (omega arith) sender seq
 
 pub encode-spec : {M : Type 1} → statement M
 encode-spec =

@@ -37,40 +37,44 @@ length-known c = eq-eqb _ _ (c .if2 .left)
 bytes-known : (c : tie.Else2) → Bytes (bundle c)
 bytes-known c i = c .before .before .before .shared-slice-known .given i .fits
 
--- ---- and behind the calls
+-- ---- and behind the first word
 
-abbrev sized : tie.After-check → tie.Else2
-sized c = c .before .before .before .before .before .before .before
+abbrev sized : tie.After-word → tie.Else2
+sized c = c .before .before
 
-slot-known : (c : tie.After-check) → c .before .before .before .before .before .word .result / 0x1_0000_0000 ≡ dayOf (bundle (sized c))
-slot-known c = ap (λ (x : ℕ). x / 0x1_0000_0000) (c .before .before .before .before .before .word .ensures) ∙ slot-day _ (sized c .if2 .left) (bytes-known (sized c))
+abbrev slot : tie.Else3 → tie.After-word
+slot c = c .before
 
-reserved-known : (c : tie.Else3) → (eqb (getD (bundle (sized (c .before))) 6 0) 0 && eqb (getD (bundle (sized (c .before))) 7 0) 0) ≡ true
+day-known : (c : tie.After-word) → c .word .result / 0x1_0000_0000 ≡ dayOf (bundle (sized c))
+day-known c = ap (λ (x : ℕ). x / 0x1_0000_0000) (c .word .ensures) ∙ slot-day _ (sized c .if2 .left) (bytes-known (sized c))
+
+reserved-known : (c : tie.Else3) → (eqb (getD (bundle (sized (slot c))) 6 0) 0 && eqb (getD (bundle (sized (slot c))) 7 0) 0) ≡ true
 reserved-known c =
-    reserved-zero (bundle (sized (c .before))) (sized (c .before) .if2 .left) (bytes-known (sized (c .before))) (rw (c .before .before .before .before .before .before .word .ensures) at (c .if3 .left))
+    reserved-zero (bundle (sized (slot c))) (sized (slot c) .if2 .left) (bytes-known (sized (slot c))) (rw (slot c .word .ensures) at (c .if3 .left))
+
+-- ---- and at the call
+
+abbrev dated : tie.After-check → tie.Else4
+dated c = c .before .before .before .before .before
+
+abbrev entered : tie.After-check → tie.Else2
+entered c = sized (slot (dated c .before .before))
 
 -- what `check` is handed
 abbrev header : tie.After-check → Header
-header c = record { sender = getD (bundle (sized c)) 4 0; seq = getD (bundle (sized c)) 5 0; signers = c .before .word2 .result }
+header c = record { sender = getD (bundle (entered c)) 4 0; seq = getD (bundle (entered c)) 5 0; signers = c .before .word2 .result }
 
-header-known : (c : tie.After-check) → header c ≡ headerOf (bundle (sized c))
+header-known : (c : tie.After-check) → header c ≡ headerOf (bundle (entered c))
 unfolding headerOf
 header-known c =
     ap {B = Header} (λ (g : ℕ). record { sender = header c .sender; seq = header c .seq; signers = g })
-    (c .before .word2 .ensures ∙ signers-word (bundle (sized c)) (sized c .if2 .left))
+    (c .before .word2 .ensures ∙ signers-word (bundle (entered c)) (entered c .if2 .left))
 
 -- with the first four tests passed, the reasons left are those of the header
-header-decides : (c : tie.Else4)
-    → read (config (sized (c .before .before .before))) (bundle (sized (c .before .before .before))) ≡ unless (headerReasons (config (sized (c .before .before .before))) (header (c .before .before .before))) (header (c .before .before .before))
+header-decides : (c : tie.After-check) → read (config (entered c)) (bundle (entered c)) ≡ unless (headerReasons (config (entered c)) (header c)) (header c)
 unfolding read readReasons unless
 header-decides c =
-    simp (
-      good-known (sized (c .before .before .before) .before),
-      length-known (sized (c .before .before .before)),
-      reserved-known (c .before .before),
-      eq-eqb _ _ (sym (slot-known (c .before .before .before)) ∙ c .if4 .left),
-      ← header-known (c .before .before .before),
-    )
+    simp (good-known (entered c .before), length-known (entered c), reserved-known (dated c .before .before), eq-eqb _ _ (sym (day-known (slot (dated c .before .before))) ∙ dated c .if4 .left), ← header-known c)
 
 -- ---- the needs
 
@@ -97,11 +101,24 @@ part-word-end c = search needs
 word-requires : tie.Need-word-requires
 word-requires c κs = search needs
 
-shared-slice-read-t16 : tie.Need-shared-slice-read-t16
-shared-slice-read-t16 c = search needs
+returns-3 : tie.Need-returns-3
+unfolding read readReasons unless
+returns-3 c =
+    simp (good-known (sized (c .before) .before), length-known (sized (c .before)), reserved-set (bundle (sized (c .before))) (sized (c .before) .if2 .left) (bytes-known (sized (c .before))) (rw (c .before .word .ensures) at (c .if3 .taken)))
 
-shared-slice-read-t18 : tie.Need-shared-slice-read-t18
-shared-slice-read-t18 c = search needs
+cast-if4 : tie.Need-cast-if4
+cast-if4 c = search needs
+
+returns-4 : tie.Need-returns-4
+unfolding read readReasons unless
+returns-4 c =
+    simp (good-known (sized (slot (c .before .before)) .before), length-known (sized (slot (c .before .before))), reserved-known (c .before .before), ne-eqb _ _ (λ q. c .if4 .taken (day-known (slot (c .before .before)) ∙ q)))
+
+shared-slice-read-t19 : tie.Need-shared-slice-read-t19
+shared-slice-read-t19 c = search needs
+
+shared-slice-read-t21 : tie.Need-shared-slice-read-t21
+shared-slice-read-t21 c = search needs
 
 sub-word-2 : tie.Need-sub-word-2
 sub-word-2 c = search needs
@@ -116,41 +133,19 @@ word-requires-2 : tie.Need-word-requires-2
 word-requires-2 c κs = search needs
 
 check-requires : tie.Need-check-requires
-check-requires c κs = good-known (c .before .before .before .before .before .before .before)
-
-returns-3 : tie.Need-returns-3
-unfolding read readReasons unless
-returns-3 c =
-    simp (
-      good-known (sized (c .before) .before),
-      length-known (sized (c .before)),
-      reserved-set (bundle (sized (c .before))) (sized (c .before) .if2 .left) (bytes-known (sized (c .before))) (rw (c .before .before .before .before .before .before .word .ensures) at (c .if3 .taken)),
-    )
-
-cast-if4 : tie.Need-cast-if4
-cast-if4 c = search needs
-
-returns-4 : tie.Need-returns-4
-unfolding read readReasons unless
-returns-4 c =
-    simp (
-      good-known (sized (c .before .before .before) .before),
-      length-known (sized (c .before .before .before)),
-      reserved-known (c .before .before),
-      ne-eqb _ _ (λ q. c .if4 .taken (slot-known (c .before .before .before) ∙ q)),
-    )
+check-requires c κs = good-known (c .before .before .before .before .before .before .before .before .before .before)
 
 enum-told : tie.Need-enum-told
 enum-told c = search needs
 
-enum-known-checked : tie.Need-enum-known-checked
-enum-known-checked c = search needs
+enum-known-reason : tie.Need-enum-known-reason
+enum-known-reason c = search needs
 
 returns-5 : tie.Need-returns-5
-returns-5 c = sym (header-decides (c .before .before) ∙ done-again _ _ _ _ (sym (c .before .before .before .before .before .check .ensures) ∙ ap verdictOf (c .enum-told .given .1)))
+returns-5 c = sym (header-decides (c .before .before) ∙ done-again _ _ _ _ (sym (c .before .before .check .ensures) ∙ ap verdictOf (c .enum-told .given .1)))
 
 returns-6 : tie.Need-returns-6
-returns-6 c = sym (header-decides (c .before .before .before) ∙ refused-again _ _ _ _ (sym (c .before .before .before .before .before .before .check .ensures) ∙ ap verdictOf (c .before .checked .given .1)))
+returns-6 c = sym (header-decides (c .before .before .before) ∙ refused-again _ _ _ _ (sym (c .before .before .before .check .ensures) ∙ ap verdictOf (c .before .reason .given .1)))
 
 pub read-spec : {M : Type 1} → statement M
 read-spec =
@@ -163,17 +158,17 @@ read-spec =
     part-word-start
     part-word-end
     word-requires
-    shared-slice-read-t16
-    shared-slice-read-t18
+    returns-3
+    cast-if4
+    returns-4
+    shared-slice-read-t19
+    shared-slice-read-t21
     sub-word-2
     part-word-start-2
     part-word-end-2
     word-requires-2
     check-requires
-    returns-3
-    cast-if4
-    returns-4
     enum-told
-    enum-known-checked
+    enum-known-reason
     returns-5
     returns-6)
