@@ -7,13 +7,13 @@ use Prim.Native.Nat.{ℕ, zero, suc, _+_, _*_, _/_, _%_, _^_, _<_}
 use native.Mathlib.Omega.{arith}
 use lib.Dec.{eqb, lit<}
 use borrow.Author.Tests.{eqb-true, eq-eqb}
-use lib.ListN.{length, getD, drop, length-drop, take-append-drop}
-use lib.Seq.{take-all}
+use lib.ListN.{length, getD, take, drop, length-drop, take-append-drop}
+use lib.Seq.{take-all, take-add, drop-drop}
 use Rattle.octets.specs.Octets.{Bytes, number, bytesOf, part, wordOf, words, filled}
 use Rattle.octets.proofs.Numbers.{bytesOf-split, bytesOf-low, bytesOf-number, length-part, number-high, number-low}
 use Rattle.octets.proofs.Joined.{elements-part, word-number, word-bytes}
 use Rattle.bundle.specs.declared.Header.{Header}
-use Rattle.bundle.specs.Bundle.{bundleOf, dayOf, headerOf, encoded, size, payloadSize}
+use Rattle.bundle.specs.Bundle.{bundleOf, dayOf, headerOf, encoded, size, payloadStart, payloadSize}
 
 -- the first word of a bundle
 abbrev pub slotWord : ℕ → ℕ → ℕ → ℕ
@@ -92,3 +92,10 @@ payload-words payload l bytes =
     ap₂ _++_ (word-bytes payload 0 (omega arith) bytes)
     (word-bytes payload 8 (omega arith) bytes ∙ take-all 8 (drop 8 payload) (simp length-drop (omega arith)))
     ∙ take-append-drop 8 payload
+
+-- and so is the payload in a bundle
+pub bundle-words : (bundle : List ℕ) → length bundle ≡ size → Bytes bundle
+    → bytesOf 8 (wordOf (part 16 8 bundle)) ++ bytesOf 8 (wordOf (part 24 8 bundle)) ≡ part payloadStart payloadSize bundle
+bundle-words bundle l bytes =
+    ap₂ _++_ (word-bytes bundle 16 (omega arith) bytes) (word-bytes bundle 24 (omega arith) bytes ∙ ap (take 8) (sym (drop-drop 8 16 bundle)))
+    ∙ sym (take-add 8 8 (drop 16 bundle))

@@ -31,3 +31,7 @@ inRange w sender seq = ltb sender (w .n) && ltb seq slots
 -- "sender s, number k starts at 32 × (16 × s + k)"; "the place is 0 for a sender or number out of range"
 unfoldable pub place : Config → ℕ → ℕ → ℕ
 place w sender seq = cond (good w && inRange w sender seq) (recordSize * (slots * sender + seq)) 0
+
+-- "The records of a day lie in one lent buffer of 512 × n bytes"
+unfoldable pub recordsSize : Config → ℕ
+recordsSize w = recordSize * slots * w .n

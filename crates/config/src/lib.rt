@@ -4,7 +4,7 @@
 // has quorum 0, mask 0 and place 0. A caller asks `good` first: every set meets a quorum of 0, and 0 is
 // the place of a slot, too.
 ghost use mathlib.Core.Path.{_≡_};
-ghost use Rattle.config.specs.Config.{good, quorum, mask, place};
+ghost use Rattle.config.specs.Config.{good, quorum, mask, place, recordsSize};
 
 // Slots of one sender in a day.
 pub const SLOTS: u8 = 16;
@@ -78,5 +78,12 @@ impl Config {
             return 0;
         }
         RECORD_SIZE * ((SLOTS as usize) * (sender as usize) + (seq as usize))
+    }
+
+    // How many bytes the records of a day take.
+    pub fn records_size(self) -> usize
+        ensures { λ r. ⌜ r ≡ recordsSize self ⌝ }
+    {
+        RECORD_SIZE * (SLOTS as usize) * (self.n as usize)
     }
 }

@@ -1,17 +1,17 @@
 -- Reading a word: bytes joined by shifts and ors make the number that they write.
 -- Assumes nothing.
 use mathlib.Core.Path.{_≡_, refl, sym, ap, ap₂, _∙_, subst}
-use mathlib.Core.List.{List, [], _∷_, reverse}
+use mathlib.Core.List.{List, [], _∷_, _++_, reverse}
 use Prim.Native.Nat.{ℕ, zero, suc, _+_, _*_, _/_, _%_, _^_, _≤_, _<_}
 use native.Mathlib.Nat.{pow-suc, mul-suc, div-one}
 use native.Mathlib.Omega.{arith}
 use lib.Bits.{bitOr, or-shifted}
 use lib.Pow.{shl-exact, pow-add}
 use lib.Dec.{lit≤}
-use lib.ListN.{length, getD, take, drop}
-use lib.Seq.{drop-cons, take-all}
+use lib.ListN.{length, getD, take, drop, length-drop, take-append-drop}
+use lib.Seq.{drop-cons, drop-drop, take-all}
 use borrow.Author.Tests.{eq-eqb, ne-eqb}
-use Rattle.octets.specs.Octets.{Bytes, number, bytesOf, part, wordOf}
+use Rattle.octets.specs.Octets.{Bytes, number, bytesOf, part, wordOf, words}
 use Rattle.octets.proofs.Numbers.{number-lt, bytesOf-number, length-part, number-part, bytes-reverse, bytes-bytesOf}
 
 -- a byte shifted above those that follow it, and so on
@@ -96,3 +96,17 @@ joined-word xs l bytes =
     joined-number (getD xs 0 0) (elements xs 1 7) (subst Bytes (sym whole) bytes) (lit≤ tt)
     ∙ ap number whole
     ∙ sym (word-number xs l)
+
+-- 32 bytes are their four words
+pub words-joined : (xs : List ℕ) → length xs ≡ 32 → Bytes xs
+    → words (wordOf (part 0 8 xs)) (wordOf (part 8 8 xs)) (wordOf (part 16 8 xs)) (wordOf (part 24 8 xs)) ≡ xs
+unfolding words
+words-joined xs l bytes =
+    ap₂ _++_ (word-bytes xs 0 (omega arith) bytes)
+    (ap₂ _++_ (word-bytes xs 8 (omega arith) bytes)
+    (ap₂ _++_ (word-bytes xs 16 (omega arith) bytes)
+    (word-bytes xs 24 (omega arith) bytes ∙ take-all 8 (drop 24 xs) (simp length-drop (omega arith)) ∙ sym (drop-drop 8 16 xs))
+    ∙ take-append-drop 8 (drop 16 xs)
+    ∙ sym (drop-drop 8 8 xs))
+    ∙ take-append-drop 8 (drop 8 xs))
+    ∙ take-append-drop 8 xs

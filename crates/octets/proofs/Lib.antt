@@ -3,3 +3,4 @@ pub mod Numbers
 pub mod Joined
 pub mod Stored
 pub mod Listed
+pub mod Same

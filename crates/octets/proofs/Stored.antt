@@ -1,13 +1,13 @@
 -- Writing words: stores one byte after the other put a word in its place, and four words fill 32 bytes.
 -- Assumes nothing.
 use mathlib.Core.Path.{_≡_, refl, ap, _∙_}
-use mathlib.Core.List.{List, [], _∷_, _++_, reverse, reverse-reverse, append-assoc}
-use Prim.Native.Nat.{ℕ, suc, _+_, _%_, _≤_}
+use mathlib.Core.List.{List, [], _∷_, _++_, reverse, reverse-reverse, append-assoc, append-nil}
+use Prim.Native.Nat.{ℕ, zero, suc, _+_, _%_, _≤_, _<_}
 use native.Mathlib.Nat.{add-suc}
 use native.Mathlib.Numerals.{add-one}
 use native.Mathlib.Omega.{arith}
 use borrow.Author.Tests.{eq-eqb}
-use lib.ListN.{length, set, take, drop, drop-of-length-le}
+use lib.ListN.{length, set, take, drop, replicate, drop-of-length-le}
 use lib.Seq.{drop-drop, sets, sets-eq}
 use Rattle.octets.specs.Octets.{bytesOf, words, filled}
 use Rattle.octets.proofs.Joined.{lowFirst, lowFirst-reverse}
@@ -44,3 +44,20 @@ put-words xs ys zs us vs a b c d l e f g h =
     ∙ ap (λ (r : List ℕ). take 24 r ++ (bytesOf 8 d ++ drop 32 r))
     (g ∙ ap (λ (r : List ℕ). take 16 r ++ (bytesOf 8 c ++ drop 24 r)) (f ∙ ap (λ (r : List ℕ). take 8 r ++ (bytesOf 8 b ++ drop 16 r)) e))
     ∙ ap (λ (r : List ℕ). words a b c d ++ r) gone)
+
+-- one zero more at the front,
+zeros-more : (xs : List ℕ) (i : ℕ) → i < length xs → set (replicate i 0 ++ drop i xs) i 0 ≡ replicate (suc i) 0 ++ drop (suc i) xs
+zeros-more [] i h = absurd (omega arith)
+zeros-more (x ∷ xs) zero h = refl
+zeros-more (x ∷ xs) (suc i) h = ap (λ (r : List ℕ). 0 ∷ r) (zeros-more xs i (omega arith))
+
+pub cleared-more : (xs ys : List ℕ) (i : ℕ) → i < length xs → ys ≡ replicate i 0 ++ drop i xs → set ys i 0 ≡ replicate (i + 1) 0 ++ drop (i + 1) xs
+cleared-more xs ys i h e = rw (e, add-one i) (zeros-more xs i h)
+
+-- until all is zero
+pub cleared-all : (xs ys : List ℕ) (i : ℕ) → i ≡ length xs → ys ≡ replicate i 0 ++ drop i xs → ys ≡ replicate (length xs) 0
+cleared-all xs ys i h e =
+    e
+    ∙ ap (λ (r : List ℕ). replicate i 0 ++ r) (drop-of-length-le xs {i = i} (omega arith))
+    ∙ append-nil (replicate i 0)
+    ∙ ap (λ (k : ℕ). replicate k 0) h

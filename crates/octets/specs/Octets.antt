@@ -1,14 +1,25 @@
 -- Document 01, "Bundle and record": "integers with the high byte first". A slice of bytes is the list of its numbers.
 -- Assumes nothing.
-use mathlib.Core.Bool.{cond}
+use mathlib.Core.Bool.{Bool, true, false, cond, _&&_}
 use mathlib.Core.List.{List, [], _∷_, _++_}
 use Prim.Native.Nat.{ℕ, zero, suc, _+_, _*_, _/_, _%_, _^_, _<_}
 use lib.Dec.{eqb}
-use lib.ListN.{length, getD, take, drop}
+use lib.ListN.{length, getD, take, drop, replicate}
 
 -- every element is a byte
 abbrev pub Bytes : List ℕ → Type 0
 Bytes xs = (i : ℕ) → getD xs i 0 < 256
+
+-- the two lists have the same elements
+unfoldable pub same : List ℕ → List ℕ → Bool
+same [] [] = true
+same [] (y ∷ ys) = false
+same (x ∷ xs) [] = false
+same (x ∷ xs) (y ∷ ys) = eqb x y && same xs ys
+
+-- every element is zero
+abbrev pub blank : List ℕ → Bool
+blank xs = same xs (replicate (length xs) 0)
 
 -- the number that the bytes write, high byte first
 unfoldable pub number : List ℕ → ℕ

@@ -5,7 +5,7 @@
 ghost use mathlib.Core.Path.{_≡_};
 ghost use mathlib.Core.List.{_++_, reverse};
 ghost use Prim.Native.Nat.{_+_, _≤_};
-ghost use lib.ListN.{length, take, drop};
+ghost use lib.ListN.{length, take, drop, replicate};
 ghost use Rattle.octets.specs.Octets.{wordOf, bytesOf, filled};
 
 // The number that eight bytes write, or 0 for a slice of another length.
@@ -34,6 +34,17 @@ pub fn fill(bytes: &mut [u8], a: u64, b: u64, c: u64, d: u64)
     put(bytes, 8, b);
     put(bytes, 16, c);
     put(bytes, 24, d);
+}
+
+// Makes every byte zero.
+pub fn clear(bytes: &mut [u8])
+    ensures { λ _. ⌜ now (bytes .exit) ≡ replicate (length (now (bytes .entry))) 0 ⌝ }
+{
+    let mut i = 0;
+    while i < bytes.len() {
+        bytes[i] = 0;
+        i += 1;
+    }
 }
 
 fn put(bytes: &mut [u8], at: usize, x: u64)

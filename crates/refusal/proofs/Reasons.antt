@@ -1,7 +1,7 @@
 -- A list of reasons, of which the first that applies counts: how a chain of checks goes through it, and what is known where
 -- none applied. Every call's refusals go by these laws.
 -- Assumes nothing.
-use mathlib.Core.Path.{_≡_, refl, sym}
+use mathlib.Core.Path.{_≡_, refl, sym, ap}
 use mathlib.Core.Bool.{Bool, true, false}
 use mathlib.Core.List.{List, [], _∷_, _++_}
 use Prim.Native.Nat.{ℕ}
@@ -41,6 +41,17 @@ module _ {A : Type 0} where
   done-clear ((number if false) ∷ rest) work result e =
       let below = done-clear rest work result e in
       ((refl, below .0), below .1)
+
+-- the outcome alone says so too
+pub plain-done : {A : Type 0} (reasons : List Reason) (work : A) → plain (unless reasons work) ≡ done tt → unless reasons work ≡ done work
+unfolding unless
+plain-done [] work e = refl
+plain-done ((number if true) ∷ rest) work e = absurd (refused-not-done number tt e)
+plain-done ((number if false) ∷ rest) work e = plain-done rest work e
+
+pub plain-refused : {A : Type 0} (outcome : Outcome A) (number : ℕ) → plain outcome ≡ refused number → outcome ≡ refused number
+plain-refused (refused other) number e = let same : other ≡ number = cc in ap refused same
+plain-refused (done work) number e = absurd (refused-not-done number tt (sym e))
 
 -- the reasons decide, whatever the work is
 pub done-again : {A B : Type 0} (reasons : List Reason) (first result : A) (second : B)

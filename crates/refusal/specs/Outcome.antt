@@ -20,6 +20,12 @@ module _ {A : Type 0} where
   unless [] work = done work
   unless ((number if applies) ∷ rest) work = cond applies (refused number) (unless rest work)
 
+  -- one outcome after the other: what the first refuses, both refuse
+  infixl 5 _and-then_
+  abbrev pub _and-then_ : {B : Type 0} → Outcome A → (A → Outcome B) → Outcome B
+  refused number and-then next = refused number
+  done work and-then next = next work
+
   -- what there is afterwards: the result of the work, and as before after a refusal. "A refusal .. changes no byte."
   abbrev pub after : {B : Type 0} → Outcome A → (A → B) → B → B
   after (refused number) result before = before
@@ -29,3 +35,7 @@ module _ {A : Type 0} where
   abbrev pub plain : Outcome A → Outcome Unit
   plain (refused number) = refused number
   plain (done work) = done tt
+
+-- the first of the reasons that applies, with no work of its own
+abbrev pub checked : List Reason → Outcome Unit
+checked reasons = unless reasons tt

@@ -16,7 +16,7 @@ one-le : (a : Bool) → one a ≤ 1
 one-le true = le-refl 1
 one-le false = zero-le
 
-one-mono : (a b : Bool) → (a ≡ true → b ≡ true) → one a ≤ one b
+pub one-mono : (a b : Bool) → (a ≡ true → b ≡ true) → one a ≤ one b
 one-mono true b h = rw (h refl) (le-refl 1)
 one-mono false b h = zero-le
 

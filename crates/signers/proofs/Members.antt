@@ -4,10 +4,10 @@ use mathlib.Core.Bool.{Bool, true, false, cond, _&&_, _||_, true≢false, and-fa
 use mathlib.Core.Logic.{_⊎_, inl, inr}
 use mathlib.Core.Path.{_≡_, refl, sym, ap, ap₂, _∙_}
 use Prim.Native.Nat.{ℕ, zero, suc, _+_, _*_, _/_, _%_, _^_, _-_, _≤_, _<_, zero-le, suc-le-suc}
-use native.Mathlib.Nat.{eq-zero-or-pos, zero-lt-suc, lt-of-lt-of-le, lt-of-not-le, lt-suc-self, one-mul, pow-suc, mod-lt, mul-mod-left, div-one, div-eq-of-lt, div-eq-of-lt-le}
+use native.Mathlib.Nat.{eq-zero-or-pos, zero-lt-suc, lt-of-lt-of-le, lt-of-not-le, lt-suc-self, one-mul, pow-suc, mod-lt, mul-mod-left, div-one, div-eq-of-lt, div-eq-of-lt-le, div-lt-iff-lt-mul}
 use native.Mathlib.Numerals.{one-add}
 use native.Mathlib.Omega.{arith}
-use borrow.Author.Tests.{ltb-true, lt-ltb, le-ltb, eqb-true}
+use borrow.Author.Tests.{ltb-true, lt-ltb, le-ltb, eqb-true, eq-eqb, ne-eqb}
 use lib.Bits.{bitAnd, bitOr, or-shr, or-mod, or-lt, and-shr, and-mod, and-lt}
 use lib.Count.{ones-step, ones-le, leading-top}
 use lib.Dec.{ltb, eqb, leb·suc-suc, eqb·suc-suc, eqb·zero-suc, eqb·suc-zero, lit<}
@@ -138,6 +138,18 @@ within-lt a n = ltb-true a (2 ^ n)
 pub lt-within : (a n : ℕ) → a < 2 ^ n → within a n ≡ true
 unfolding within
 lt-within a n = lt-ltb a (2 ^ n)
+
+-- and where nothing is left when the lowest n bits are shifted out
+pub shifted-out : (a n : ℕ) → eqb (a / 2 ^ n) 0 ≡ within a n
+shifted-out a n = go (within a n) refl
+  where
+    go : (b : Bool) → within a n ≡ b → eqb (a / 2 ^ n) 0 ≡ b
+    go true e = eq-eqb (a / 2 ^ n) 0 (div-eq-of-lt (within-lt a n e))
+    go false e =
+        ne-eqb (a / 2 ^ n) 0 (λ z.
+        let small : a / 2 ^ n < 1 = omega arith in
+        let below = div-lt-iff-lt-mul (pow-pos n) .0 small in
+        true≢false (sym (lt-within a n (omega arith)) ∙ e))
 
 -- every member of a word within n is below n
 pub within-says : (a n u : ℕ) → within a n ≡ true → member a u ≡ true → u < n

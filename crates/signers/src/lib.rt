@@ -3,7 +3,7 @@
 // A bundle and a record keep the nodes that signed a payload as such a word. Every function is
 // defined for every argument; a node number of 64 or more has no bit, so no set has it.
 ghost use mathlib.Core.Path.{_≡_};
-ghost use Rattle.signers.specs.Signers.{member as isMember, insert as inserted, union as united, size as sized};
+ghost use Rattle.signers.specs.Signers.{member as isMember, insert as inserted, union as united, size as sized, within as isWithin};
 
 // Whether `node` is in `set`.
 pub fn member(set: u64, node: u8) -> bool
@@ -37,4 +37,14 @@ pub fn size(set: u64) -> u32
     ensures { λ r. ⌜ r ≡ sized set ⌝ }
 {
     u64::count_ones(set)
+}
+
+// Whether no node of `set` is `n` or above.
+pub fn within(set: u64, n: u8) -> bool
+    ensures { λ r. ⌜ r ≡ isWithin set n ⌝ }
+{
+    if 64 <= n {
+        return true;
+    }
+    set >> n == 0
 }

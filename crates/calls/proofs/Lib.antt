@@ -1,0 +1,8 @@
+-- Laws of the calls that belong to no one function.
+pub mod Room
+pub mod Refusals
+pub mod Records
+pub mod Found
+pub mod Taking
+pub mod Sent
+pub mod Settled

@@ -1,0 +1,7 @@
+-- What the contracts of the calls cite, and what is claimed of them.
+pub mod Records
+pub mod Open
+pub mod Broadcast
+pub mod Receive
+pub mod Delivered
+pub mod Settled

@@ -1,0 +1,22 @@
+-- Document 01, "Calls": "Opening a day leaves every byte zero in the buffer."
+-- Assumes nothing.
+use mathlib.Core.Bool.{not}
+use mathlib.Core.List.{List, [], _∷_}
+use Prim.Native.Nat.{ℕ}
+use lib.ListN.{length, replicate}
+use Rattle.refusal.specs.Outcome.{Outcome, Reason, _if_, unless, after}
+use Rattle.config.specs.declared.Config.{Config}
+use Rattle.config.specs.Config.{good}
+use Rattle.calls.specs.Records.{wrongSize}
+
+module _ (w : Config) (records : List ℕ) where
+  -- "Opening uses 1, 20"
+  unfoldable pub openReasons : List Reason
+  openReasons = (1 if not (good w)) ∷ (20 if wrongSize w records) ∷ []
+
+  -- it gives the records afterwards
+  unfoldable pub opened : Outcome (List ℕ)
+  opened = unless openReasons (replicate (length records) 0)
+
+  unfoldable pub openRecords : List ℕ
+  openRecords = after opened (λ zeros. zeros) records

@@ -1,0 +1,279 @@
+// The calls of a node: opening a day, broadcasting, receiving, and showing what was delivered.
+//
+// Each is defined for all bytes, lengths and numbers over the buffers that it is lent. It refuses by the
+// first reason of document 01 that applies, and then leaves every byte as it is.
+use bundle::Header;
+use bundle::Reading;
+use config::Config;
+use record::Record;
+use record::Step;
+use refusal::Refusal;
+use refusal::Verdict;
+ghost use mathlib.Core.Path.{_≡_};
+ghost use mathlib.Core.Bool.{true};
+ghost use Prim.Native.Nat.{_<_, _+_};
+ghost use lib.ListN.{length};
+ghost use Rattle.octets.specs.Octets.{further};
+ghost use Rattle.refusal.specs.Refusal.{verdictOf, numberOf};
+ghost use Rattle.refusal.specs.Outcome.{plain, after, refused, _and-then_, done};
+ghost use Rattle.config.specs.Config.{good, inRange, recordsSize, slots};
+ghost use Rattle.bundle.specs.Bundle.{readingOf, bundleOf, size};
+ghost use Rattle.record.specs.Record.{bytes, stepOf};
+ghost use Rattle.calls.specs.Records.{recordAt, stored};
+ghost use Rattle.calls.specs.Open.{opened, openRecords};
+ghost use Rattle.calls.specs.Broadcast.{search as searched, broadcast as broadcastOf, broadcastRecords, broadcastOut, announcementOf, announcementCount};
+ghost use Rattle.calls.specs.Receive.{receive as receiveOf, receiveRecords, receiveOut, reported, receiptOf, receiptCount};
+ghost use Rattle.calls.specs.Delivered.{delivered as deliveredOf, deliveredPart, deliveredPlace};
+ghost use Rattle.calls.specs.Settled.{settledReceipt, settledRecords, settledOut, numberIn, sent};
+
+// The answer of broadcasting: the sequence number used.
+pub enum Announcement {
+    Announced(u8),
+    Refused(Refusal),
+}
+
+// The answer of receiving, with the number of signers in the record afterwards.
+pub enum Receipt {
+    Kept(u32),
+    Signed(u32),
+    Delivered(u32),
+    Refused(Refusal),
+}
+
+impl Announcement {
+    // How many signers the record has: the node itself, and none after a refusal.
+    pub fn count(self) -> u32
+        ensures { λ r. ⌜ r ≡ announcementCount self ⌝ }
+    {
+        match self {
+            Announcement::Announced(_) => 1,
+            Announcement::Refused(_) => 0,
+        }
+    }
+}
+
+impl Receipt {
+    // How many signers the record has afterwards; none is told after a refusal.
+    pub fn count(self) -> u32
+        ensures { λ r. ⌜ r ≡ receiptCount self ⌝ }
+    {
+        match self {
+            Receipt::Kept(count) => count,
+            Receipt::Signed(count) => count,
+            Receipt::Delivered(count) => count,
+            Receipt::Refused(_) => 0,
+        }
+    }
+}
+
+// Opens the day: makes every record empty.
+pub fn open(config: Config, records: &mut [u8]) -> Verdict
+    ensures { λ r. ⌜ verdictOf r ≡ plain (opened config (now (records .entry))) ⌝ }
+    ensures { λ _. ⌜ now (records .exit) ≡ openRecords config (now (records .entry)) ⌝ }
+{
+    if !config.good() {
+        return Verdict::Refused(Refusal::BadConfig);
+    }
+    if records.len() != config.records_size() {
+        return Verdict::Refused(Refusal::RecordsLength);
+    }
+    octets::clear(records);
+    Verdict::Done
+}
+
+// Signs a payload of our own, keeps it under our lowest free number and writes its bundle to `out`. What
+// is announced is to be sent. Delivery comes by receiving alone.
+pub fn broadcast(config: Config, payload: &[u8], records: &mut [u8], out: &mut [u8]) -> Announcement
+    ensures { λ r. ⌜ announcementOf r ≡ broadcastOf config (now (payload .entry)) (now (records .entry)) (now (out .entry)) ⌝ }
+    ensures { λ _. ⌜ now (records .exit) ≡ broadcastRecords config (now (payload .entry)) (now (records .entry)) (now (out .entry)) ⌝ }
+    ensures { λ _. ⌜ now (out .exit) ≡ broadcastOut config (now (payload .entry)) (now (records .entry)) (now (out .entry)) ⌝ }
+{
+    if !config.good() {
+        return Announcement::Refused(Refusal::BadConfig);
+    }
+    if payload.len() != bundle::PAYLOAD_SIZE {
+        return Announcement::Refused(Refusal::PayloadLength);
+    }
+    if out.len() != bundle::SIZE {
+        return Announcement::Refused(Refusal::OutLength);
+    }
+    if records.len() != config.records_size() {
+        return Announcement::Refused(Refusal::RecordsLength);
+    }
+    let found = search(config, records, 0, config::SLOTS);
+    let Announcement::Announced(seq) = found else {
+        return found;
+    };
+    let record = Record {
+        head: record::HELD,
+        signers: signers::insert(0, config.own),
+        high: octets::word(&payload[0..8]),
+        low: octets::word(&payload[8..16]),
+    };
+    put(config, config.own, seq, record, records);
+    send(config, config.own, seq, record, out);
+    found
+}
+
+// Takes a bundle that came in. What is answered signed or delivered is to be sent: `out` then has the
+// bundle of the record.
+pub fn receive(config: Config, bundle: &[u8], records: &mut [u8], out: &mut [u8]) -> Receipt
+    ensures { λ r. ⌜ receiptOf r ≡ (receiveOf config (now (bundle .entry)) (now (records .entry)) (now (out .entry)) and-then λ turn. done (reported turn)) ⌝ }
+    ensures { λ _. ⌜ now (records .exit) ≡ receiveRecords config (now (bundle .entry)) (now (records .entry)) (now (out .entry)) ⌝ }
+    ensures { λ _. ⌜ now (out .exit) ≡ receiveOut config (now (bundle .entry)) (now (records .entry)) (now (out .entry)) ⌝ }
+{
+    let reading = bundle::read(config, bundle);
+    let Reading::Accepted(header) = reading else {
+        return Receipt::Refused(reason(reading));
+    };
+    if out.len() != bundle::SIZE {
+        return Receipt::Refused(Refusal::OutLength);
+    }
+    if records.len() != config.records_size() {
+        return Receipt::Refused(Refusal::RecordsLength);
+    }
+    let record = get(config, header.sender, header.seq, records);
+    if !record.well_formed(config, header.sender) {
+        return Receipt::Refused(Refusal::MalformedRecord);
+    }
+    let high = octets::word(&bundle[16..24]);
+    let low = octets::word(&bundle[24..32]);
+    let step = record.take(config, header.signers, high, low);
+    settle(config, header, step, records, out)
+}
+
+// Whether the slot is delivered, or why it cannot be shown.
+pub fn check_delivered(config: Config, sender: u8, seq: u8, records: &[u8]) -> Verdict
+    ensures { λ r. ⌜ verdictOf r ≡ plain (deliveredOf config sender seq (now (records .entry))) ⌝ }
+{
+    if !config.good() {
+        return Verdict::Refused(Refusal::BadConfig);
+    }
+    if config.n <= sender {
+        return Verdict::Refused(Refusal::SenderRange);
+    }
+    if config::SLOTS <= seq {
+        return Verdict::Refused(Refusal::SeqRange);
+    }
+    if records.len() != config.records_size() {
+        return Verdict::Refused(Refusal::RecordsLength);
+    }
+    let record = get(config, sender, seq, records);
+    if !record.well_formed(config, sender) {
+        return Verdict::Refused(Refusal::MalformedRecord);
+    }
+    if !record.is_delivered() {
+        return Verdict::Refused(Refusal::NotDelivered);
+    }
+    Verdict::Done
+}
+
+// The delivered payload as a part of the lent records; the empty part at their start where
+// `check_delivered` refuses.
+pub fn delivered(config: Config, sender: u8, seq: u8, records: &[u8]) -> &[u8]
+    ensures { λ r. ⌜ now r ≡ deliveredPart config sender seq (now (records .entry)) ⌝ }
+    ensures { λ r. ⌜ r .ptr ≡ further (deliveredPlace config sender seq (now (records .entry))) (records .entry .ptr) ⌝ }
+{
+    match check_delivered(config, sender, seq, records) {
+        Verdict::Done => {
+            let end = config.place(sender, seq) + config::RECORD_SIZE;
+            &records[end - bundle::PAYLOAD_SIZE..end]
+        }
+        Verdict::Refused(_) => &records[0..0],
+    }
+}
+
+// The lowest of our numbers from `seq` on whose record is empty, if all before it are sound. `left`
+// records are left to look at.
+fn search(config: Config, records: &[u8], seq: u8, left: u8) -> Announcement
+    requires { ⌜ good config ≡ true ⌝ }
+    requires { ⌜ length (now records) ≡ recordsSize config ⌝ }
+    requires { ⌜ seq + left ≡ slots ⌝ }
+    ensures { λ r. ⌜ announcementOf r ≡ searched config (now (records .entry)) seq left ⌝ }
+{
+    if left == 0 {
+        return Announcement::Refused(Refusal::NoFreeSlot);
+    }
+    let record = get(config, config.own, seq, records);
+    if record.is_blank() {
+        return Announcement::Announced(seq);
+    }
+    if !record.well_formed(config, config.own) {
+        return Announcement::Refused(Refusal::MalformedRecord);
+    }
+    search(config, records, seq + 1, left - 1)
+}
+
+// The reason for which a bundle was not accepted.
+fn reason(reading: Reading) -> Refusal
+    ensures { λ r. ⌜ numberOf r ≡ numberIn (readingOf reading) ⌝ }
+{
+    match reading {
+        Reading::Refused(reason) => reason,
+        Reading::Accepted(_) => Refusal::BadConfig,
+    }
+}
+
+// Does what a step asks for: keeps the record, writes its bundle, or neither.
+fn settle(config: Config, header: Header, step: Step, records: &mut [u8], out: &mut [u8]) -> Receipt
+    requires { ⌜ good config ≡ true ⌝ }
+    requires { ⌜ inRange config (header .sender) (header .seq) ≡ true ⌝ }
+    requires { ⌜ length (now records) ≡ recordsSize config ⌝ }
+    requires { ⌜ length (now out) ≡ size ⌝ }
+    ensures { λ r. ⌜ receiptOf r ≡ settledReceipt (stepOf step) ⌝ }
+    ensures { λ _. ⌜ now (records .exit) ≡ settledRecords config header (stepOf step) (now (records .entry)) ⌝ }
+    ensures { λ _. ⌜ now (out .exit) ≡ settledOut config header (stepOf step) (now (out .entry)) ⌝ }
+{
+    match step {
+        Step::Kept(record) => {
+            put(config, header.sender, header.seq, record, records);
+            Receipt::Kept(signers::size(record.signers))
+        }
+        Step::Signed(record) => {
+            put(config, header.sender, header.seq, record, records);
+            send(config, header.sender, header.seq, record, out);
+            Receipt::Signed(signers::size(record.signers))
+        }
+        Step::Delivered(record) => {
+            put(config, header.sender, header.seq, record, records);
+            send(config, header.sender, header.seq, record, out);
+            Receipt::Delivered(signers::size(record.signers))
+        }
+        Step::Refused(reason) => Receipt::Refused(reason),
+    }
+}
+
+// The record of a slot.
+fn get(config: Config, sender: u8, seq: u8, records: &[u8]) -> Record
+    requires { ⌜ good config ≡ true ⌝ }
+    requires { ⌜ inRange config sender seq ≡ true ⌝ }
+    requires { ⌜ length (now records) ≡ recordsSize config ⌝ }
+    ensures { λ r. ⌜ bytes r ≡ recordAt config sender seq (now (records .entry)) ⌝ }
+{
+    let start = config.place(sender, seq);
+    record::load(&records[start..start + config::RECORD_SIZE])
+}
+
+// Stores the record of a slot.
+fn put(config: Config, sender: u8, seq: u8, record: Record, records: &mut [u8])
+    requires { ⌜ good config ≡ true ⌝ }
+    requires { ⌜ inRange config sender seq ≡ true ⌝ }
+    requires { ⌜ length (now records) ≡ recordsSize config ⌝ }
+    ensures { λ _. ⌜ now (records .exit) ≡ stored config sender seq (bytes «record») (now (records .entry)) ⌝ }
+{
+    let start = config.place(sender, seq);
+    record.store(&mut records[start..start + config::RECORD_SIZE]);
+}
+
+// Writes the record's bundle.
+fn send(config: Config, sender: u8, seq: u8, record: Record, out: &mut [u8])
+    requires { ⌜ length (now out) ≡ size ⌝ }
+    ensures { λ _. ⌜ now (out .exit) ≡ sent config sender seq (bytes «record») ⌝ }
+{
+    let header = Header {
+        sender,
+        seq,
+        signers: record.signers,
+    };
+    bundle::encode(config.day, header, record.high, record.low, out);
+}

@@ -1,0 +1,100 @@
+-- That the test `same` is the truth of equality of lists, and what it says of lists put together and of the bytes of numbers.
+-- Assumes nothing.
+use mathlib.Core.Path.{_≡_, refl, sym, ap, ap₂, _∙_, subst}
+use mathlib.Core.Bool.{Bool, true, false, _&&_, and-eq-true-iff, true≢false}
+use mathlib.Core.List.{List, [], _∷_, _++_}
+use Prim.Native.Nat.{ℕ, _^_, _<_}
+use native.Mathlib.Omega.{arith}
+use lib.Dec.{eqb, lit<}
+use lib.ListN.{length, replicate, length-replicate}
+use borrow.Author.Tests.{eqb-true, eq-eqb}
+use Rattle.octets.specs.Octets.{same, blank, number, bytesOf, words}
+use Rattle.octets.proofs.Numbers.{number-bytesOf, length-bytesOf}
+
+-- lists that pass the test are equal,
+pub same-says : (xs ys : List ℕ) → same xs ys ≡ true → xs ≡ ys
+unfolding same
+same-says [] [] e = refl
+same-says [] (y ∷ ys) e = absurd (true≢false (sym e))
+same-says (x ∷ xs) [] e = absurd (true≢false (sym e))
+same-says (x ∷ xs) (y ∷ ys) e =
+    let (first, rest) = and-eq-true-iff (eqb x y) (same xs ys) .0 e in
+    ap₂ _∷_ (eqb-true x y first) (same-says xs ys rest)
+
+-- and a list passes it with itself
+pub same-self : (xs : List ℕ) → same xs xs ≡ true
+unfolding same
+same-self [] = refl
+same-self (x ∷ xs) = rw (eq-eqb x x refl, same-self xs)
+
+-- lists that fail it are not equal
+pub same-not : (xs ys : List ℕ) → same xs ys ≡ false → xs ≡ ys → ⊥
+same-not xs ys e p = true≢false (sym (same-self ys) ∙ subst (λ (zs : List ℕ). same zs ys ≡ false) p e)
+
+-- so the order of the two does not matter
+pub same-flip : (xs ys : List ℕ) → same xs ys ≡ same ys xs
+same-flip xs ys = go (same xs ys) refl (same ys xs) refl
+  where
+    go : (a : Bool) → same xs ys ≡ a → (b : Bool) → same ys xs ≡ b → same xs ys ≡ same ys xs
+    go true e b f = rw (same-says xs ys e)
+    go false e true f = rw (same-says ys xs f)
+    go false e false f = e ∙ sym f
+
+-- a blank list has zeros alone, and zeros are blank
+pub blank-says : (xs : List ℕ) → blank xs ≡ true → xs ≡ replicate (length xs) 0
+blank-says xs e = same-says xs (replicate (length xs) 0) e
+
+pub blank-zeros : (k : ℕ) → blank (replicate k 0) ≡ true
+blank-zeros k = rw (length-replicate {A = ℕ} k 0) (same-self (replicate k 0))
+
+-- lists put together are the same where their parts are
+pub same-append : (xs ys us vs : List ℕ) → length xs ≡ length ys → same (xs ++ us) (ys ++ vs) ≡ (same xs ys && same us vs)
+unfolding same
+same-append [] [] us vs l = refl
+same-append [] (y ∷ ys) us vs l = absurd (omega arith)
+same-append (x ∷ xs) [] us vs l = absurd (omega arith)
+same-append (x ∷ xs) (y ∷ ys) us vs l = go (eqb x y) (same-append xs ys us vs (omega arith))
+  where
+    go : (b : Bool) → same (xs ++ us) (ys ++ vs) ≡ (same xs ys && same us vs) → (b && same (xs ++ us) (ys ++ vs)) ≡ ((b && same xs ys) && same us vs)
+    go true below = below
+    go false below = refl
+
+-- numbers that fit are the same where their bytes are
+pub same-bytesOf : (k a b : ℕ) → a < 256 ^ k → b < 256 ^ k → same (bytesOf k a) (bytesOf k b) ≡ eqb a b
+same-bytesOf k a b ha hb = go (same (bytesOf k a) (bytesOf k b)) refl (eqb a b) refl
+  where
+    go : (s : Bool) → same (bytesOf k a) (bytesOf k b) ≡ s → (e : Bool) → eqb a b ≡ e → s ≡ e
+    go true h true g = refl
+    go true h false g =
+        sym (eq-eqb a b (sym (number-bytesOf k a ha) ∙ ap number (same-says (bytesOf k a) (bytesOf k b) h) ∙ number-bytesOf k b hb)) ∙ g
+    go false h true g = sym h ∙ ap (λ (x : ℕ). same (bytesOf k a) (bytesOf k x)) (sym (eqb-true a b g)) ∙ same-self (bytesOf k a)
+    go false h false g = refl
+
+module _ (a b c d e f g h : ℕ) where
+  -- four words are the same where each is
+  pub same-words : a < 2 ^ 64 → b < 2 ^ 64 → c < 2 ^ 64 → d < 2 ^ 64 → e < 2 ^ 64 → f < 2 ^ 64 → g < 2 ^ 64 → h < 2 ^ 64
+      → same (words a b c d) (words e f g h) ≡ (eqb a e && (eqb b f && (eqb c g && eqb d h)))
+  unfolding words
+  same-words ha hb hc hd he hf hg hh =
+      first a e (bytesOf 8 b ++ (bytesOf 8 c ++ bytesOf 8 d)) (bytesOf 8 f ++ (bytesOf 8 g ++ bytesOf 8 h)) ha he
+      ∙ ap (λ (r : Bool). eqb a e && r)
+      (first b f (bytesOf 8 c ++ bytesOf 8 d) (bytesOf 8 g ++ bytesOf 8 h) hb hf
+      ∙ ap (λ (r : Bool). eqb b f && r)
+      (first c g (bytesOf 8 d) (bytesOf 8 h) hc hg ∙ ap (λ (r : Bool). eqb c g && r) (same-bytesOf 8 d h hd hh)))
+    where
+      first : (x y : ℕ) (xs ys : List ℕ) → x < 2 ^ 64 → y < 2 ^ 64 → same (bytesOf 8 x ++ xs) (bytesOf 8 y ++ ys) ≡ (eqb x y && same xs ys)
+      first x y xs ys hx hy =
+          same-append (bytesOf 8 x) (bytesOf 8 y) xs ys (length-bytesOf 8 x ∙ sym (length-bytesOf 8 y))
+          ∙ ap (λ (r : Bool). r && same xs ys) (same-bytesOf 8 x y hx hy)
+
+zero-words : (a b c d : ℕ) → replicate (length (words a b c d)) 0 ≡ words 0 0 0 0
+unfolding words bytesOf
+zero-words a b c d = refl
+
+-- and all 32 bytes are zero where each word is
+pub blank-words : (a b c d : ℕ) → a < 2 ^ 64 → b < 2 ^ 64 → c < 2 ^ 64 → d < 2 ^ 64
+    → blank (words a b c d) ≡ (eqb a 0 && (eqb b 0 && (eqb c 0 && eqb d 0)))
+blank-words a b c d ha hb hc hd = zeros ∙ same-words a b c d 0 0 0 0 ha hb hc hd (lit< tt) (lit< tt) (lit< tt) (lit< tt)
+  where
+    zeros : blank (words a b c d) ≡ same (words a b c d) (words 0 0 0 0)
+    zeros = ap (same (words a b c d)) (zero-words a b c d)

@@ -1,0 +1,118 @@
+-- Demand 2, first sentence, on values: what specs/Algorithm.antt claims. Announcing on an empty record does what mbrb_broadcast does, and
+-- taking does what the algorithm does when it receives the bundle, up to the differences of document 01. By cases on the record, then on the
+-- tests of taking. Assumes nothing.
+use mathlib.Core.Path.{_≡_, refl, sym, ap, _∙_}
+use mathlib.Core.Logic.{inl, inr}
+use mathlib.Core.Bool.{Bool, true, false, cond, and-false}
+use mathlib.Core.List.{List, [], _∷_}
+use Prim.Native.Nat.{ℕ, _+_, _^_, zero-le}
+use lib.Bits.{bitOr, or-zero-l, or-zero-r}
+use lib.Dec.{leb, ltb}
+use lib.Pow.{pow-pos}
+use borrow.Author.Tests.{ltb-true, lt-leb, eq-eqb}
+use Rattle.octets.specs.Octets.{same}
+use Rattle.octets.proofs.Same.{same-says, same-self, same-flip}
+use Rattle.signers.specs.Signers.{member, insert, union, size}
+use Rattle.signers.proofs.Members.{member-below}
+use Rattle.refusal.specs.Outcome.{unless}
+use Rattle.protocol.specs.Slot.{Record, Empty, Held, Delivered, payloadOf, isEmpty, Turn, kept, signed, delivered, announcedBy, takeReasons, gathered, taken, take}
+use Rattle.protocol.specs.Algorithm.{State, Run, save, sign, bundleEffect, onBroadcast, line9, line5, andLine9, onBundle, keepOne, sendOnce, stateOf, effectsOf, SameState, BroadcastFollows, Follows, TakeFollows}
+
+-- ---- words and messages
+
+-- nobody is in the empty word
+nobody : (u : ℕ) → member 0 u ≡ false
+nobody u = member-below 0 0 u (pow-pos 0) zero-le
+
+-- joining the word of one node inserts it
+one-joined : (sigs own : ℕ) → union sigs (insert 0 own) ≡ insert sigs own
+unfolding insert
+one-joined sigs own = go (ltb own 64)
+  where
+    go : (b : Bool) → bitOr sigs (cond b (bitOr 0 (2 ^ own)) 0) ≡ cond b (bitOr sigs (2 ^ own)) sigs
+    go true = ap (bitOr sigs) (or-zero-l (2 ^ own))
+    go false = or-zero-r sigs
+
+-- where one message is kept, what is saved for it decides
+one-kept : (saved : List ℕ → ℕ) (m x : List ℕ) (g : ℕ) → saved m ≡ g → cond (same m x) g 0 ≡ cond (same m x) (saved x) 0
+one-kept saved m x g e = go (same m x) refl
+  where
+    go : (b : Bool) → same m x ≡ b → cond (same m x) g 0 ≡ cond (same m x) (saved x) 0
+    go true h = rw (h, ← e) (ap saved (same-says m x h))
+    go false h = rw h
+
+-- ---- announcing
+
+-- the word of the announcing node alone is saved, for its message alone
+pub broadcast-follows : BroadcastFollows
+unfolding stateOf announcedBy onBroadcast sign save bundleEffect
+broadcast-follows own m = (record { alike = λ x. rw (same-flip x m); signed-alike = refl; delivered-alike = refl }, rw (same-self m))
+
+-- ---- taking
+
+-- the state is the paper's with one message kept, and the effects are the paper's with the repeated bundle left out
+abbrev Alike : Turn → Run → Type 0
+Alike turn run = SameState (stateOf (turn .after)) (keepOne (payloadOf (turn .after)) (run .state)) × (effectsOf turn ≡ sendOnce (run .effects))
+
+module _ (n t own sender q sigs : ℕ) (m : List ℕ) (r : Record) (quorum : (k : ℕ) → leb q k ≡ ltb (n + t) (k + k)) where
+  -- Where lines 4 to 8 save for the message what the record gathers, and send a bundle if the record was empty, taking follows: line 9 delivers
+  -- where taking does.
+  gathers : (σ : State) → σ .saved m ≡ gathered own q sigs m r → σ .hasSigned ≡ true → σ .hasDelivered ≡ false
+      → Alike (taken own q sigs m r) (andLine9 n t own sender m (record { state = σ; effects = cond (isEmpty r) (bundleEffect m σ ∷ []) [] }))
+  unfolding taken andLine9 line9 bundleEffect stateOf keepOne effectsOf sendOnce
+  gathers σ e made waits = go (leb q (size word)) (isEmpty r) (rw e (sym (quorum (size word))))
+    where
+      word : ℕ
+      word = gathered own q sigs m r
+
+      state-alike : (ours theirs : Bool) → ours ≡ theirs
+          → SameState (record { saved = λ x. cond (same m x) word 0; hasSigned = true; hasDelivered = ours })
+          (keepOne m (record { saved = σ .saved; hasSigned = σ .hasSigned; hasDelivered = theirs }))
+      state-alike ours theirs d = record { alike = λ x. one-kept (σ .saved) m x word e; signed-alike = sym made; delivered-alike = d }
+
+      go : (full fresh : Bool) → ltb (n + t) (size (σ .saved m) + size (σ .saved m)) ≡ full
+          → Alike (cond full (record { answer = delivered; after = Delivered word m }) (record { answer = cond fresh signed kept; after = Held word m }))
+          (andLine9 n t own sender m (record { state = σ; effects = cond fresh (bundleEffect m σ ∷ []) [] }))
+      go true true h = rw h (state-alike true true refl, rw (eq-eqb (σ .saved m) (σ .saved m) refl, same-self m, e))
+      go true false h = rw h (state-alike true true refl, rw e)
+      go false true h = rw h (state-alike false (σ .hasDelivered) (sym waits), rw e)
+      go false false h = rw h (state-alike false (σ .hasDelivered) (sym waits), refl)
+
+  -- with fewer signatures than the quorum, line 9 does nothing
+  too-few : (σ : State) → σ .saved m ≡ sigs → ltb (size sigs) q ≡ true → line9 n t own sender m σ ≡ record { state = σ; effects = [] }
+  unfolding line9
+  too-few σ e f = rw (e, ← (quorum (size sigs)), lt-leb q (size sigs) (ltb-true (size sigs) q f))
+
+-- Empty: 23, or lines 4 to 12. Held: this message, and lines 4 and 9 to 12; or another, and 23, 24, or a full quorum at once. Delivered: 22.
+pub take-follows : TakeFollows
+unfolding take takeReasons unless gathered onBundle line5 andLine9 save sign stateOf keepOne bundleEffect
+take-follows n t own sender q sigs m Empty quorum present = go (member sigs own) refl
+  where
+    go : (ours : Bool) → member sigs own ≡ ours → Follows n t own sender sigs m Empty (take own q sigs m Empty)
+    go true e = rw e (inr (inl (refl, e, nobody own)))
+    go false e =
+        let saved = sign own m (save m sigs (stateOf Empty)) in
+        rw (e, present) (gathers n t own sender q sigs m Empty quorum saved (rw (same-self m) (one-joined sigs own)) refl refl)
+take-follows n t own sender q sigs m (Held s p) quorum present = go (same p m) refl (member sigs own) refl (ltb (size sigs) q) refl
+  where
+    saved : State
+    saved = save m sigs (stateOf (Held s p))
+
+    -- what is saved for another message is dropped again
+    dropped : same p m ≡ false → (x : List ℕ) (b : Bool) → same p x ≡ b → cond (same p x) (saved .saved x) 0 ≡ cond (same p x) s 0
+    dropped h x true k = let apart : same x m ≡ false = ap (λ y. same y m) (sym (same-says p x k)) ∙ h in rw (k, apart)
+    dropped h x false k = rw k
+
+    go : (held : Bool) → same p m ≡ held → (ours : Bool) → member sigs own ≡ ours → (few : Bool) → ltb (size sigs) q ≡ few
+        → Follows n t own sender sigs m (Held s p) (take own q sigs m (Held s p))
+    go true h ours e few f =
+        rw (h, and-false (member sigs own), present) (gathers n t own sender q sigs m (Held s p) quorum saved (rw (same-self m, h)) refl refl)
+    go false h true e few f = rw (h, e) (inr (inl (refl, e, rw h (nobody own))))
+    go false h false e true f =
+        let quiet = too-few n t own sender q sigs m (Held s p) quorum saved (rw (same-self m, h)) f in
+        let back : SameState (keepOne p saved) (stateOf (Held s p)) = record { alike = λ x. dropped h x (same p x) refl; signed-alike = refl; delivered-alike = refl } in
+        rw (h, e, f, present, quiet) (inr (inr (refl, rw h, back, refl)))
+    go false h false e false f =
+        rw (h, e, f, present) (gathers n t own sender q sigs m (Held s p) quorum saved (rw (same-self m, h)) refl refl)
+take-follows n t own sender q sigs m (Delivered s p) quorum present =
+    inl (refl, refl, record { alike = λ x. refl; signed-alike = refl; delivered-alike = refl }, refl)

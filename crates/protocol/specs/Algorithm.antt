@@ -1,0 +1,141 @@
+-- Demand 2, first sentence: Algorithm 1 of "Asynchronous Byzantine reliable broadcast with a message adversary", the lines under the paper's
+-- numbers, for one slot (sn, j) at process p_i; then the differences that document 01 lists, each a function; then what is claimed of
+-- them. `own` is i, `sender` is j, `m` the app-message. It is proved in proofs/Algorithm.antt.
+-- Assumes nothing.
+use mathlib.Core.Path.{_≡_}
+use mathlib.Core.Logic.{_⊎_}
+use mathlib.Core.Bool.{Bool, true, false, cond, not, _&&_}
+use mathlib.Core.List.{List, [], _∷_, _++_}
+use Prim.Native.Nat.{ℕ, _+_}
+use lib.Dec.{leb, ltb, eqb}
+use Rattle.octets.specs.Octets.{same}
+use Rattle.signers.specs.Signers.{member, insert, union, size}
+use Rattle.refusal.specs.Outcome.{Outcome, refused, done}
+use Rattle.protocol.specs.Slot.{Record, Empty, signersOf, payloadOf, isEmpty, isDelivered, holds, holdsOther, Turn, sends, delivers, announcedBy, take}
+
+-- ---- the paper's algorithm
+
+-- What p_i keeps of the slot: for each message the signers whose signature is saved; whether (-, sn, j) was signed by p_i, and whether it was
+-- mbrb-delivered.
+pub record State : Type 0 where
+  pub saved : List ℕ → ℕ
+  pub hasSigned : Bool
+  pub hasDelivered : Bool
+
+-- what p_i does that others see: "broadcast BUNDLE(m, sn, j, sigs)" and "mbrb_deliver(m, sn, j)"
+pub data Effect : Type 0 where
+  broadcast : (sigs : ℕ) (m : List ℕ) → Effect
+  deliver : (m : List ℕ) → Effect
+
+pub record Run : Type 0 where
+  pub state : State
+  pub effects : List Effect
+
+-- "save .. signatures for (m, sn, j)", those of `sigs`
+unfoldable pub save : List ℕ → ℕ → State → State
+save m sigs σ = record {
+  saved = λ x. cond (same x m) (union (σ .saved x) sigs) (σ .saved x);
+  hasSigned = σ .hasSigned;
+  hasDelivered = σ .hasDelivered;
+}
+
+-- "save signature for (m, sn, j) by p_i"; (-, sn, j) is then signed by p_i
+unfoldable pub sign : ℕ → List ℕ → State → State
+sign own m σ = record { saved = save m (insert 0 own) σ .saved; hasSigned = true; hasDelivered = σ .hasDelivered }
+
+-- "broadcast BUNDLE(m, sn, j, {all saved signatures for (m, sn, j)})"
+unfoldable pub bundleEffect : List ℕ → State → Effect
+bundleEffect m σ = broadcast (σ .saved m) m
+
+-- operation mbrb_broadcast(m, sn): lines 1 and 2
+unfoldable pub onBroadcast : ℕ → List ℕ → State → Run
+onBroadcast own m σ = record { state = sign own m σ; effects = bundleEffect m (sign own m σ) ∷ [] }
+
+module _ (n t own sender : ℕ) (m : List ℕ) where
+  -- lines 9 to 12: "if (strictly more than (n + t)/2 signatures for (m, sn, j) are saved) then broadcast ..; mbrb_deliver(m, sn, j)"
+  unfoldable pub line9 : State → Run
+  line9 σ =
+      cond (ltb (n + t) (size (σ .saved m) + size (σ .saved m)))
+      (record {
+        state = record { saved = σ .saved; hasSigned = σ .hasSigned; hasDelivered = true };
+        effects = bundleEffect m σ ∷ deliver m ∷ [];
+      })
+      (record { state = σ; effects = [] })
+
+  -- lines 5 to 8: "if ((-, sn, j) not already signed by p_i) then save signature ..; broadcast .. end if"
+  unfoldable pub line5 : State → Run
+  line5 σ = cond (σ .hasSigned) (record { state = σ; effects = [] }) (record { state = sign own m σ; effects = bundleEffect m (sign own m σ) ∷ [] })
+
+  -- one part after the other
+  unfoldable pub andLine9 : Run → Run
+  andLine9 r = record { state = line9 (r .state) .state; effects = r .effects ++ line9 (r .state) .effects }
+
+  -- when BUNDLE(m, sn, j, sigs) is received, lines 3 to 13: "if ((-, sn, j) not already mbrb-delivered and sigs contains the valid signature
+  -- for (m, sn, j) by p_j) then", line 4: "save all unsaved valid signatures for (m, sn, j) of sigs"
+  unfoldable pub onBundle : ℕ → State → Run
+  onBundle sigs σ =
+      cond (not (σ .hasDelivered) && member sigs sender) (andLine9 (line5 (save m sigs σ))) (record { state = σ; effects = [] })
+
+-- ---- the differences of document 01
+
+-- "A unit holds one body per slot": of the saved signatures those for one message stay, the others are dropped. "Another body is delivered
+-- only if a single bundle brings a full quorum for it" follows: nothing was saved for it before.
+unfoldable pub keepOne : List ℕ → State → State
+keepOne m σ = record { saved = λ x. cond (same m x) (σ .saved x) 0; hasSigned = σ .hasSigned; hasDelivered = σ .hasDelivered }
+
+-- "Signing and delivering in one step send one bundle; the paper sends the same bundle twice."
+unfoldable pub sendOnce : List Effect → List Effect
+sendOnce [] = []
+sendOnce (deliver m ∷ rest) = deliver m ∷ sendOnce rest
+sendOnce (broadcast sigs m ∷ []) = broadcast sigs m ∷ []
+sendOnce (broadcast sigs m ∷ deliver x ∷ rest) = broadcast sigs m ∷ deliver x ∷ sendOnce rest
+sendOnce (broadcast sigs m ∷ broadcast others x ∷ rest) =
+    cond (eqb sigs others && same m x) (sendOnce (broadcast others x ∷ rest)) (broadcast sigs m ∷ sendOnce (broadcast others x ∷ rest))
+
+-- ---- a record as the paper's state, and a turn as the paper's effects
+
+unfoldable pub stateOf : Record → State
+stateOf r = record { saved = λ x. cond (holds r x) (signersOf r) 0; hasSigned = not (isEmpty r); hasDelivered = isDelivered r }
+
+unfoldable pub effectsOf : Turn → List Effect
+effectsOf turn =
+    cond (sends (turn .answer)) (broadcast (signersOf (turn .after)) (payloadOf (turn .after)) ∷ []) []
+    ++ cond (delivers (turn .answer)) (deliver (payloadOf (turn .after)) ∷ []) []
+
+-- the same signatures for every message, signed and delivered alike
+pub record SameState (a b : State) : Type 0 where
+  pub alike : (x : List ℕ) → a .saved x ≡ b .saved x
+  pub signed-alike : a .hasSigned ≡ b .hasSigned
+  pub delivered-alike : a .hasDelivered ≡ b .hasDelivered
+
+-- Announcing on an empty record does what mbrb_broadcast does.
+abbrev pub BroadcastFollows : Type 0
+BroadcastFollows =
+    (own : ℕ) (m : List ℕ)
+    → SameState (stateOf (announcedBy own m)) (onBroadcast own m (stateOf Empty) .state)
+    × (onBroadcast own m (stateOf Empty) .effects ≡ broadcast (signersOf (announcedBy own m)) m ∷ [])
+
+-- What a taking comes to, beside what the algorithm does with the bundle on the same state.
+module _ (n t own sender : ℕ) (sigs : ℕ) (m : List ℕ) (r : Record) where
+  abbrev run : Run
+  run = onBundle n t own sender m sigs (stateOf r)
+
+  -- Done: the state is the paper's with one message kept, what is sent is what the paper sends with the repeated bundle left out, and what is
+  -- delivered is what the paper delivers.
+  -- 22: line 3 fails, and the paper does nothing either.
+  -- 23: the bundle has a signature of p_i for m that p_i has not saved, so never made (lines 1 and 6 save each one made): it is not valid, and
+  -- the paper's model has no such bundle.
+  -- 24: the paper saves the signatures for another message (line 4) and does nothing else; we drop them.
+  abbrev pub Follows : Outcome Turn → Type 0
+  Follows (done turn) = SameState (stateOf (turn .after)) (keepOne (payloadOf (turn .after)) (run .state)) × (effectsOf turn ≡ sendOnce (run .effects))
+  Follows (refused number) =
+      ((number ≡ 22) × (stateOf r .hasDelivered ≡ true) × SameState (run .state) (stateOf r) × (run .effects ≡ []))
+      ⊎ ((number ≡ 23) × (member sigs own ≡ true) × (member (stateOf r .saved m) own ≡ false))
+      ⊎ ((number ≡ 24) × (holdsOther r m ≡ true) × SameState (keepOne (payloadOf r) (run .state)) (stateOf r) × (run .effects ≡ []))
+
+-- Taking follows the algorithm, for the paper's quorum and a bundle that has its sender's signature (reading refuses any other: 8).
+abbrev pub TakeFollows : Type 0
+TakeFollows =
+    (n t own sender q sigs : ℕ) (m : List ℕ) (r : Record)
+    → ((k : ℕ) → leb q k ≡ ltb (n + t) (k + k)) → member sigs sender ≡ true
+    → Follows n t own sender sigs m r (take own q sigs m r)

@@ -1,0 +1,6 @@
+-- What the contracts of the crates above cite, and what is claimed of the protocol on values.
+pub mod Slot
+pub mod Algorithm
+pub mod Trace
+pub mod OneSlot
+pub mod Tight

@@ -1,0 +1,72 @@
+-- Document 01, "Bundle and record": the 32 bytes in which a node keeps what it has of a slot, and when they are sound.
+-- Assumes nothing.
+use mathlib.Core.Bool.{Bool, cond, _&&_}
+use mathlib.Core.List.{List, _∷_, _++_}
+use Prim.Native.Nat.{ℕ}
+use lib.Dec.{ltb, leb, eqb}
+use lib.ListN.{length, getD, replicate}
+use Rattle.octets.specs.Octets.{number, bytesOf, part, blank, words}
+use Rattle.signers.specs.Signers.{member, within, size}
+use Rattle.refusal.specs.Refusal.{numberOf}
+use Rattle.refusal.specs.Outcome.{Outcome, refused, done, _and-then_}
+use Rattle.config.specs.declared.Config.{Config}
+use Rattle.config.specs.Config.{quorum, recordSize}
+use Rattle.protocol.specs.Slot as slot
+use Rattle.protocol.specs.Slot.{Answer, kept, signed, delivered, Turn, Empty, Held, Delivered}
+use Rattle.record.specs.declared.Record.{Record}
+use Rattle.record.specs.declared.Step as Step
+
+-- "Record: byte 0 state (0 empty, 1 held, 2 delivered), 1-7 zero, 8-15 signers, 16-31 body."
+unfoldable pub fields : ℕ → ℕ → List ℕ → List ℕ
+fields state signers payload = state ∷ (replicate 7 0 ++ (bytesOf 8 signers ++ payload))
+
+unfoldable pub image : slot.Record → List ℕ
+image Empty = replicate recordSize 0
+image (Held signers payload) = fields 1 signers payload
+image (Delivered signers payload) = fields 2 signers payload
+
+abbrev pub stateIn : List ℕ → ℕ
+stateIn bytes = getD bytes 0 0
+
+abbrev pub signersIn : List ℕ → ℕ
+signersIn bytes = number (part 8 8 bytes)
+
+abbrev pub payloadIn : List ℕ → List ℕ
+payloadIn bytes = part 16 16 bytes
+
+-- the record that sound bytes write
+unfoldable pub recordIn : List ℕ → slot.Record
+recordIn bytes =
+    cond (eqb (stateIn bytes) 0) Empty
+    (cond (eqb (stateIn bytes) 1) (Held (signersIn bytes) (payloadIn bytes)) (Delivered (signersIn bytes) (payloadIn bytes)))
+
+-- "empty, all is zero; held, the sender's and our own bit are set; delivered, the sender's bit is set and at least q bits are."
+unfoldable pub fits : Config → ℕ → List ℕ → slot.Record → Bool
+fits w sender bytes Empty = blank bytes
+fits w sender bytes (Held signers payload) = member signers sender && member signers (w .own)
+fits w sender bytes (Delivered signers payload) = member signers sender && leb (quorum w) (size signers)
+
+-- "A record is sound when its state is 0, 1 or 2, bytes 1-7 are zero, no signer bit is at n or above, and:"
+unfoldable pub wellFormed : Config → ℕ → List ℕ → Bool
+wellFormed w sender bytes =
+    ltb (stateIn bytes) 3 && (blank (part 1 7 bytes) && (within (signersIn bytes) (w .n) && fits w sender bytes (recordIn bytes)))
+
+-- ---- as a program has it: four words
+
+unfoldable pub bytes : Record → List ℕ
+bytes r = words (r .head) (r .signers) (r .high) (r .low)
+
+-- what is loaded from a slice: its bytes, and an empty record from a slice of another length
+unfoldable pub loaded : List ℕ → List ℕ
+loaded xs = cond (eqb (length xs) recordSize) xs (replicate recordSize 0)
+
+-- the number and values of each case of a step, the record by its bytes
+abbrev pub stepOf : Step.Step → Outcome (Answer × List ℕ)
+stepOf (Step.the-variants.Kept r) = done (kept, bytes r)
+stepOf (Step.the-variants.Signed r) = done (signed, bytes r)
+stepOf (Step.the-variants.Delivered r) = done (delivered, bytes r)
+stepOf (Step.the-variants.Refused reason) = refused (numberOf reason)
+
+-- a turn, its record by its bytes
+unfoldable pub imaged : Outcome Turn → Outcome (Answer × List ℕ)
+imaged outcome = outcome and-then (λ turn. done (turn .answer, image (turn .after)))

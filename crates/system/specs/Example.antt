@@ -1,0 +1,110 @@
+-- That demand 3 is not empty: a list of calls, written out, that meets all that is assumed of one, on which a faulty node sends two payloads in its
+-- slot, each bundle sent misses a correct node, and payloads are delivered. It is proved in proofs/Example.antt.
+-- Assumes nothing.
+use mathlib.Core.Path.{_≡_}
+use mathlib.Core.Bool.{true}
+use mathlib.Core.List.{List}
+use Prim.Native.Nat.{ℕ, _-_}
+use lib.Dec.{eqb}
+use lib.ListN.{replicate}
+use Rattle.signers.specs.Sets.{count, both}
+use Rattle.bundle.specs.Bundle.{size, payloadSize, bundleOf}
+use Rattle.protocol.specs.Trace.{Trace, start, _then_calls_, each}
+use Rattle.system.specs.Demand3.{Call, Open, Broadcast, Receive, System, correct, c, announces, delivers, sendsThis, signs, reaches, ever, Assumed, Reached}
+
+-- six nodes, of which 5 is faulty; a sending may miss one correct node. The quorum is 4.
+unfoldable pub six : System
+six = record {
+  shared = record { n = 6; t = 1; d = 1; own = 0; day = 7 };
+  faulty = λ u. eqb u 5;
+  buffers = λ u. replicate 3072 255;
+}
+
+-- the two payloads that node 5 sends, and the one that node 0 announces
+unfoldable pub first : List ℕ
+first = replicate payloadSize 1
+
+unfoldable pub second : List ℕ
+second = replicate payloadSize 2
+
+unfoldable pub third : List ℕ
+third = replicate payloadSize 3
+
+-- taking, with outgoing bytes of the right length, of a bundle of this sender's slot 0. Signers as words: bit u stands for node u.
+unfoldable pub gets : ℕ → ℕ → List ℕ → Call
+gets sender signers content = Receive (bundleOf 7 (record { sender = sender; seq = 0; signers = signers }) content) (replicate size 0)
+
+-- the slot of node 5. What it signs itself, 32, goes to 0, and with the other payload to 4. Node 0 sends 33, 1 sends 35 and 2, which delivers, sends
+-- 39; 4 sends 48. Then 39 lets 0, 1, 3 and 4 deliver, 4 although it signed the other payload, and 3 sends 47. The calls after these eight are refused:
+-- they bring each bundle that a correct node sent to four of them.
+unfoldable pub faultySlot : Trace Call → Trace Call
+faultySlot before =
+    before
+    then 0 calls gets 5 32 first
+    then 1 calls gets 5 33 first
+    then 2 calls gets 5 35 first
+    then 4 calls gets 5 32 second
+    then 0 calls gets 5 39 first
+    then 1 calls gets 5 39 first
+    then 3 calls gets 5 39 first
+    then 4 calls gets 5 39 first
+    then 0 calls gets 5 33 first
+    then 2 calls gets 5 33 first
+    then 3 calls gets 5 33 first
+    then 0 calls gets 5 35 first
+    then 1 calls gets 5 35 first
+    then 3 calls gets 5 35 first
+    then 4 calls gets 5 48 second
+    then 0 calls gets 5 48 second
+    then 1 calls gets 5 48 second
+    then 2 calls gets 5 48 second
+    then 0 calls gets 5 47 first
+    then 1 calls gets 5 47 first
+    then 2 calls gets 5 47 first
+    then 4 calls gets 5 47 first
+
+-- the slot of node 0. It announces and sends 1; 1 sends 3, 2 sends 7 and 3, which delivers, sends 15; with that 0, 1, 2 and 4 deliver, and 4 sends 31.
+-- The calls after these eight are refused, and bring each of the five to four correct nodes.
+unfoldable pub correctSlot : Trace Call → Trace Call
+correctSlot before =
+    before
+    then 0 calls Broadcast third (replicate size 0)
+    then 1 calls gets 0 1 third
+    then 2 calls gets 0 3 third
+    then 3 calls gets 0 7 third
+    then 0 calls gets 0 15 third
+    then 1 calls gets 0 15 third
+    then 2 calls gets 0 15 third
+    then 4 calls gets 0 15 third
+    then 0 calls gets 0 1 third
+    then 2 calls gets 0 1 third
+    then 3 calls gets 0 1 third
+    then 0 calls gets 0 3 third
+    then 1 calls gets 0 3 third
+    then 3 calls gets 0 3 third
+    then 0 calls gets 0 7 third
+    then 1 calls gets 0 7 third
+    then 2 calls gets 0 7 third
+    then 0 calls gets 0 31 third
+    then 1 calls gets 0 31 third
+    then 2 calls gets 0 31 third
+    then 3 calls gets 0 31 third
+
+unfoldable pub list : Trace Call
+list = correctSlot (faultySlot (start then 0 calls Open then 1 calls Open then 2 calls Open then 3 calls Open then 4 calls Open))
+
+-- so many correct nodes has a bundle reached
+abbrev pub reached : List ℕ → ℕ
+reached bundle = count (both (correct six) (ever six (reaches six bundle) list)) (six .shared .n)
+
+-- the list meets every hypothesis of demand 3, with each bundle that a correct node sent reaching c - d of them and not one more; node 4 signed one
+-- payload in the slot of node 5, and it delivered the other, as all correct nodes did; and node 0 announced a payload, which all of them delivered
+abbrev pub NotVacuous : Type 0
+NotVacuous =
+    Assumed six list
+    × Reached six list
+    × ((u : ℕ) (bundle : List ℕ) → correct six u ≡ true → ever six (sendsThis six bundle) list u ≡ true → reached bundle ≡ c six - six .shared .d)
+    × (ever six (signs six 5 0 second) list 4 ≡ true)
+    × (each (ever six (delivers six 5 0 first) list) 5 ≡ true)
+    × (ever six (announces six 0 third) list 0 ≡ true)
+    × (each (ever six (delivers six 0 0 third) list) 5 ≡ true)
