@@ -58,6 +58,45 @@ search-found w records seq (suc left) k e =
     go below false h true rest = let r = below rest in (omega (arith, r .0), r .1)
     go below false h false wrong = absurd (refused-not-done 21 k wrong)
 
+-- it is no lower than where the search began
+search-from : (w : Config) (records : List ℕ) (seq left k : ℕ) → search w records seq left ≡ done k → seq ≤ k
+unfolding search
+search-from w records seq zero k e = absurd (refused-not-done 25 k e)
+search-from w records seq (suc left) k e =
+    go (search-from w records (suc seq) left k) (blank (recordAt w (w .own) seq records)) (wellFormed w (w .own) (recordAt w (w .own) seq records)) e
+  where
+    go : (search w records (suc seq) left ≡ done k → suc seq ≤ k) → (b c : Bool)
+        → cond b (done seq) (cond c (search w records (suc seq) left) (refused 21)) ≡ done k → seq ≤ k
+    go below true c same = let found : seq ≡ k = cc in omega arith
+    go below false true rest = omega (arith, below rest)
+    go below false false wrong = absurd (refused-not-done 21 k wrong)
+
+-- the search depends on our records up to the one found,
+pub search-agrees : (w : Config) (records others : List ℕ) (seq left k : ℕ) → search w records seq left ≡ done k
+    → ((i : ℕ) → i ≤ k → recordAt w (w .own) i records ≡ recordAt w (w .own) i others) → search w others seq left ≡ done k
+unfolding search
+search-agrees w records others seq zero k e same = absurd (refused-not-done 25 k e)
+search-agrees w records others seq (suc left) k e same =
+    rw (← same seq (search-from w records seq (suc left) k e))
+    (go (λ f. search-agrees w records others (suc seq) left k f same) (blank (recordAt w (w .own) seq records))
+    (wellFormed w (w .own) (recordAt w (w .own) seq records)) e)
+  where
+    go : (search w records (suc seq) left ≡ done k → search w others (suc seq) left ≡ done k) → (b c : Bool)
+        → cond b (done seq) (cond c (search w records (suc seq) left) (refused 21)) ≡ done k
+        → cond b (done seq) (cond c (search w others (suc seq) left) (refused 21)) ≡ done k
+    go below true c found = found
+    go below false true rest = below rest
+    go below false false wrong = wrong
+
+-- and on no record but ours
+pub search-own : (w : Config) (records others : List ℕ) (seq left : ℕ) → seq + left ≤ slots
+    → ((i : ℕ) → i < slots → recordAt w (w .own) i records ≡ recordAt w (w .own) i others)
+    → search w records seq left ≡ search w others seq left
+unfolding search
+search-own w records others seq zero l same = refl
+search-own w records others seq (suc left) l same =
+    rw (same seq (omega arith), search-own w records others (suc seq) left (omega arith) same)
+
 -- a broadcast that is done: the table is good, the lengths are right, and the number answered is that of a blank record
 pub record Announced (w : Config) (payload records out : List ℕ) (k : ℕ) : Type 0 where
   pub configured : good w ≡ true

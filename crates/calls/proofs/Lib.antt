@@ -6,3 +6,6 @@ pub mod Found
 pub mod Taking
 pub mod Sent
 pub mod Settled
+pub mod Algorithm
+pub mod Locality
+pub mod Unique

@@ -1,7 +1,7 @@
 -- Why each call refuses, in the order of its checks, and what it does where no reason applies.
 -- Assumes nothing.
 use mathlib.Core.Path.{_≡_, sym, ap, _∙_}
-use mathlib.Core.Bool.{Bool, true, false, not}
+use mathlib.Core.Bool.{Bool, true, false, cond, not}
 use mathlib.Core.List.{List}
 use Prim.Native.Nat.{ℕ, _+_, _<_, _≤_}
 use lib.ListN.{length, replicate}
@@ -11,13 +11,13 @@ use Rattle.refusal.proofs.Reasons.{pass, stop, done-clear, clear-done}
 use Rattle.config.specs.declared.Config.{Config}
 use Rattle.config.specs.Config.{good, slots, inRange, place, recordsSize, quorum}
 use Rattle.bundle.specs.declared.Header.{Header}
-use Rattle.bundle.specs.Bundle.{size, payloadSize, bundleOf, read, payload}
-use Rattle.protocol.specs.Slot.{isDelivered, announcedBy, Turn, take}
+use Rattle.bundle.specs.Bundle.{size, payloadSize, bundleOf, headerOf, read, payload}
+use Rattle.protocol.specs.Slot.{isDelivered, announcedBy, sends, Turn, take}
 use Rattle.record.specs.Record.{image, recordIn, wellFormed}
 use Rattle.calls.specs.Records.{recordAt, stored}
 use Rattle.calls.specs.Open.{openReasons, opened}
 use Rattle.calls.specs.Broadcast.{search, announcedHeader, broadcastReasons, broadcast, broadcastRecords, broadcastOut}
-use Rattle.calls.specs.Receive.{receiveReasons, receive, receiveRecords, receiveOut, reported}
+use Rattle.calls.specs.Receive.{recordBundle, receiveReasons, receive, receiveRecords, receiveOut, reported}
 use Rattle.calls.specs.Delivered.{deliveredReasons, delivered}
 use Rattle.calls.proofs.Room.{in-range}
 
@@ -101,6 +101,13 @@ module _ (w : Config) (bundle records out : List ℕ) where
       × ((records ≡ receiveRecords w bundle records out) × (out ≡ receiveOut w bundle records out))
   unfolding receiveRecords receiveOut
   receive-no-effect number e = (rw e, (rw e, rw e))
+
+  -- and a turn leaves its record, and its bundle if it sends
+  pub receive-left : (turn : Turn) → receive w bundle records out ≡ done turn
+      → (receiveRecords w bundle records out ≡ stored w (headerOf bundle .sender) (headerOf bundle .seq) (image (turn .after)) records)
+      × (receiveOut w bundle records out ≡ cond (sends (turn .answer)) (recordBundle w (headerOf bundle) (turn .after)) out)
+  unfolding receiveRecords receiveOut
+  receive-left turn e = (rw e, rw e)
 
   pub receive-unread : (number : ℕ) → read w bundle ≡ refused number → receive w bundle records out ≡ refused number
   unfolding receive

@@ -1,7 +1,7 @@
 -- What becomes of the two buffers where a step is settled: what receiving says. From the laws of sound records.
 -- Assumes nothing.
 use mathlib.Core.Path.{_≡_, refl, sym, ap, ap₂, _∙_}
-use mathlib.Core.Bool.{true, cond}
+use mathlib.Core.Bool.{true, false, cond}
 use mathlib.Core.List.{List}
 use Prim.Native.Nat.{ℕ}
 use lib.ListN.{length}
@@ -12,8 +12,8 @@ use Rattle.config.specs.Config.{quorum, recordsSize}
 use Rattle.config.proofs.Laws.{good-says}
 use Rattle.bundle.specs.declared.Header.{Header}
 use Rattle.bundle.specs.Bundle.{bundleOf, read, payload}
-use Rattle.protocol.specs.Slot.{Answer, signersOf, payloadOf, sends, Turn, take}
-use Rattle.protocol.proofs.Sound.{take-sound, take-payload}
+use Rattle.protocol.specs.Slot.{Answer, signersOf, payloadOf, isEmpty, sends, Turn, take}
+use Rattle.protocol.proofs.Sound.{Sound, take-sound, take-payload}
 use Rattle.record.specs.Record.{image, signersIn, payloadIn, recordIn, wellFormed, imaged}
 use Rattle.record.proofs.Image.{wellFormed-sound, image-fields}
 use Rattle.calls.specs.Records.{recordAt, stored}
@@ -26,19 +26,25 @@ module _ (w : Config) (bundle records out : List ℕ) (h : Header) (e : read w b
     (sound : wellFormed w (h .sender) (recordAt w (h .sender) (h .seq) records) ≡ true)
     (taken : receive w bundle records out
     ≡ take (w .own) (quorum w) (h .signers) (payload w bundle) (recordIn (recordAt w (h .sender) (h .seq) records))) where
-  -- the record of a turn is read back from its bytes
+  -- the record of a turn is sound, and not empty
+  pub turn-sound : (turn : Turn) → receive w bundle records out ≡ done turn
+      → (isEmpty (turn .after) ≡ false) × Sound (w .n) (h .sender) (quorum w) (w .own) (turn .after)
+  turn-sound turn o =
+      let ok = read-says w bundle h e in
+      let g = good-says w (ok .configured) in
+      let r = recordIn (recordAt w (h .sender) (h .seq) records) in
+      let long = recordAt-length w (ok .configured) records l (h .sender) (h .seq) (ok .sender-known) (ok .slot) in (
+        take-payload (w .own) (quorum w) (h .signers) (payload w bundle) r turn (sym taken ∙ o) .0,
+        take-sound (w .n) (h .sender) (quorum w) (w .own) (h .signers) (payload w bundle) (g .known) (g .most) (ok .bundled) r turn
+            (wellFormed-sound w (h .sender) (recordAt w (h .sender) (h .seq) records) long sound) (sym taken ∙ o),
+      )
+
+  -- and is read back from its bytes
   turn-fields : (turn : Turn) → receive w bundle records out ≡ done turn
       → (signersIn (image (turn .after)) ≡ signersOf (turn .after)) × (payloadIn (image (turn .after)) ≡ payloadOf (turn .after))
   turn-fields turn o =
-      let ok = read-says w bundle h e in
-      let g = good-says w (ok .configured) in
-      let long = recordAt-length w (ok .configured) records l (h .sender) (h .seq) (ok .sender-known) (ok .slot) in
-      let step = sym taken ∙ o in
-      image-fields (w .n) (h .sender) (quorum w) (w .own) (g .most) (turn .after)
-      (take-payload (w .own) (quorum w) (h .signers) (payload w bundle) (recordIn (recordAt w (h .sender) (h .seq) records)) turn step .0)
-      (take-sound (w .n) (h .sender) (quorum w) (w .own) (h .signers) (payload w bundle) (g .known) (g .most) (ok .bundled)
-      (recordIn (recordAt w (h .sender) (h .seq) records)) turn
-      (wellFormed-sound w (h .sender) (recordAt w (h .sender) (h .seq) records) long sound) step)
+      let (some, fine) = turn-sound turn o in
+      image-fields (w .n) (h .sender) (quorum w) (w .own) (good-says w (read-says w bundle h e .configured) .most) (turn .after) some fine
 
   module _ (step : Outcome (Answer × List ℕ)) (same-step : step ≡ imaged (receive w bundle records out)) where
     -- the answer and the number of signers, the records, and the outgoing bytes

@@ -5,3 +5,5 @@ pub mod Broadcast
 pub mod Receive
 pub mod Delivered
 pub mod Settled
+pub mod Locality
+pub mod Algorithm

@@ -6,9 +6,9 @@ use mathlib.Core.Bool.{Bool, true, false, and-eq-true-iff}
 use Prim.Native.Nat.{ℕ, _+_, _-_, _*_, _/_, _^_, _≤_, _<_}
 use native.Mathlib.Nat.{not-le-of-lt}
 use native.Mathlib.Omega.{arith}
-use lib.Dec.{ltb}
+use lib.Dec.{leb, ltb}
 use lib.Pow.{ones-split, ones-lt, high, le-ones, lt-of-le-ones}
-use borrow.Author.Tests.{lt-ltb, le-leb, leb-true, ltb-true}
+use borrow.Author.Tests.{lt-ltb, le-leb, lt-leb, leb-true, ltb-true, ltb-false}
 use Rattle.config.specs.declared.Config.{Config}
 use Rattle.signers.specs.Sets.{NodeSet, count}
 use Rattle.signers.specs.Signers.{member, within, size}
@@ -84,3 +84,12 @@ quorums-share-correct w a b faulty g ha hb few qa qb =
 pub quorum-reachable : (w : Config) → good w ≡ true → quorum w + w .t + w .d ≤ w .n
 unfolding quorum
 quorum-reachable w e = let g = good-says w e in rw e (omega arith)
+
+-- a quorum is what the source calls strictly more than (n + t)/2
+pub quorum-strict : (w : Config) (k : ℕ) → good w ≡ true → leb (quorum w) k ≡ ltb (w .n + w .t) (k + k)
+unfolding quorum
+quorum-strict w k e = rw e (go (ltb (w .n + w .t) (k + k)) refl)
+  where
+    go : (b : Bool) → ltb (w .n + w .t) (k + k) ≡ b → leb ((w .n + w .t) / 2 + 1) k ≡ b
+    go true h = le-leb ((w .n + w .t) / 2 + 1) k (omega (arith, ltb-true (w .n + w .t) (k + k) h))
+    go false h = lt-leb ((w .n + w .t) / 2 + 1) k (omega (arith, ltb-false (w .n + w .t) (k + k) h))

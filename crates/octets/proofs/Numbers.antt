@@ -10,7 +10,7 @@ use lib.Arith.{digits-lt, digits-div, digits-mod, mod-mul}
 use lib.Dec.{ltb, lit<}
 use lib.Pow.{pow-add, areBytes}
 use lib.ListN.{length, getD, take, drop, length-append, length-take, length-drop, List·getD-eq-default}
-use lib.Seq.{take-add, getD-take, getD-drop}
+use lib.Seq.{take-add, take-take, drop-drop, getD-take, getD-drop}
 use borrow.Author.Tests.{ltb-true, ltb-false}
 use Rattle.octets.specs.Octets.{Bytes, number, bytesOf, part}
 
@@ -136,3 +136,13 @@ number-high xs j k h bytes = ap (λ (m : ℕ). m / 256 ^ k) (number-halves xs j 
 
 pub number-low : (xs : List ℕ) (j k : ℕ) → j + k ≤ length xs → Bytes xs → number (take (j + k) xs) % 256 ^ k ≡ number (part j k xs)
 number-low xs j k h bytes = ap (λ (m : ℕ). m % 256 ^ k) (number-halves xs j k h) ∙ digits-mod (number (take j xs)) (part-lt xs j k h bytes)
+
+-- a part of a part is a part
+part-taken : (i k m : ℕ) (ys : List ℕ) → i + k ≤ m → part i k (take m ys) ≡ part i k ys
+part-taken zero k m ys h = take-take k m ys (omega arith)
+part-taken (suc i) k zero ys h = absurd (omega arith)
+part-taken (suc i) k (suc m) [] h = refl
+part-taken (suc i) k (suc m) (y ∷ ys) h = part-taken i k m ys (omega arith)
+
+pub part-part : (i k j m : ℕ) (xs : List ℕ) → i + k ≤ m → part i k (part j m xs) ≡ part (j + i) k xs
+part-part i k j m xs h = part-taken i k m (drop j xs) h ∙ ap (take k) (drop-drop i j xs)

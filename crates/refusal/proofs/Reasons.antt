@@ -70,6 +70,14 @@ pub no-effect : {A B : Type 0} (outcome : Outcome A) (result : A → B) (before 
     → (refused number ≡ plain outcome) × (before ≡ after outcome result before)
 no-effect outcome result before number e = (rw e, rw e)
 
+-- what is left depends on the result of the work given
+pub after-same : {A B : Type 0} (reasons : List Reason) (work : A) (result other : A → B) (before : B) → result work ≡ other work
+    → after (unless reasons work) result before ≡ after (unless reasons work) other before
+unfolding unless
+after-same [] work result other before e = e
+after-same ((number if true) ∷ rest) work result other before e = refl
+after-same ((number if false) ∷ rest) work result other before e = after-same rest work result other before e
+
 -- reasons one after the other: the first list decides where one of its reasons applies, and the second one where none does
 module _ {A B : Type 0} (second : List Reason) (some : A) (work : B) where
   pub refused-first : (first : List Reason) (number : ℕ) → unless first some ≡ refused number → unless (first ++ second) work ≡ refused number

@@ -36,8 +36,12 @@ byNumber =
     ∷ NotDelivered
     ∷ []))
 
-found : (r : Refusal) → getD byNumber (numberOf r) BadConfig ≡ r
-unfolding byNumber
+-- the reason of a number
+pub reasonOf : ℕ → Refusal
+reasonOf number = getD byNumber number BadConfig
+
+pub found : (r : Refusal) → reasonOf (numberOf r) ≡ r
+unfolding reasonOf byNumber
 found BadConfig = refl
 found BundleLength = refl
 found ReservedBytes = refl
@@ -57,7 +61,7 @@ found NoFreeSlot = refl
 found NotDelivered = refl
 
 pub number-one : (a b : Refusal) → numberOf a ≡ numberOf b → a ≡ b
-number-one a b e = sym (found a) ∙ ap (λ (k : ℕ). getD byNumber k BadConfig) e ∙ found b
+number-one a b e = sym (found a) ∙ ap reasonOf e ∙ found b
 
 pub refused-number : {A : Type 0} (a b : ℕ) → _≡_ {A = Outcome A} (refused a) (refused b) → a ≡ b
 refused-number a b e = cc
