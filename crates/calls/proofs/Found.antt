@@ -13,6 +13,7 @@ use Rattle.refusal.specs.Outcome.{Outcome, refused, done, checked, _and-then_}
 use Rattle.refusal.proofs.Reasons.{Clear, refused-not-done, done-clear}
 use Rattle.config.specs.declared.Config.{Config}
 use Rattle.config.specs.Config.{good, slots, recordsSize}
+use Rattle.bundle.specs.Bundle.{payloadSize}
 use Rattle.record.specs.Record.{wellFormed}
 use Rattle.calls.specs.Records.{recordAt}
 use Rattle.calls.specs.Broadcast.{search, broadcastReasons, broadcast}
@@ -100,13 +101,13 @@ search-own w records others seq (suc left) l same =
 -- a broadcast that is done: the table is good, the lengths are right, and the number answered is that of a blank record
 pub record Announced (w : Config) (payload records out : List ℕ) (k : ℕ) : Type 0 where
   pub configured : good w ≡ true
-  pub whole : length payload ≡ 16
+  pub whole : length payload ≡ payloadSize
   pub sized : length records ≡ recordsSize w
-  pub slot : k < 16
+  pub slot : k < slots
   pub free : blank (recordAt w (w .own) k records) ≡ true
 
 broadcast-clear : (w : Config) (payload records out : List ℕ) → Clear (broadcastReasons w payload records out)
-    → (good w ≡ true) × (length payload ≡ 16) × (length records ≡ recordsSize w)
+    → (good w ≡ true) × (length payload ≡ payloadSize) × (length records ≡ recordsSize w)
 unfolding broadcastReasons
 broadcast-clear w payload records out c =
     (not-false _ (c .0), eqb-true _ _ (not-false _ (c .1 .0)), eqb-true _ _ (not-false _ (c .1 .1 .1 .0)))
@@ -123,5 +124,5 @@ broadcast-done w payload records out k e = go (checked (broadcastReasons w paylo
     go (refused number) h f = absurd (refused-not-done number k f)
     go (done first) h f =
         let c = broadcast-clear w payload records out (told first h) in
-        let found = search-found w records 0 16 k f in
+        let found = search-found w records 0 slots k f in
         record { configured = c .0; whole = c .1; sized = c .2; slot = found .0; free = found .1 }

@@ -18,7 +18,7 @@ use Rattle.bundle.specs.declared.Header.{Header}
 use Rattle.bundle.specs.Bundle.{size, payloadSize, headerOf, read, payload}
 use Rattle.protocol.specs.Slot.{Turn, announcedBy, take}
 use Rattle.protocol.proofs.Sound.{take-payload}
-use Rattle.record.specs.Record.{image, recordIn, wellFormed}
+use Rattle.record.specs.Record.{image, recordIn, wellFormed, payloadAt}
 use Rattle.record.proofs.Image.{image-length}
 use Rattle.calls.specs.Records.{recordAt, stored}
 use Rattle.calls.specs.Open.{openReasons, opened}
@@ -134,15 +134,15 @@ broadcast-depends w content records others out other seq l o same e =
 
 -- the delivered payload is a part of the record
 shown-part : (w : Config) (sender seq : ℕ) (records : List ℕ)
-    → part (place w sender seq + 16) payloadSize records ≡ part 16 payloadSize (recordAt w sender seq records)
+    → part (place w sender seq + payloadAt) payloadSize records ≡ part payloadAt payloadSize (recordAt w sender seq records)
 unfolding recordAt
-shown-part w sender seq records = sym (part-part 16 payloadSize (place w sender seq) recordSize records (lit≤ tt))
+shown-part w sender seq records = sym (part-part payloadAt payloadSize (place w sender seq) recordSize records (lit≤ tt))
 
 pub delivered-depends : DeliveredDepends
 unfolding delivered deliveredReasons deliveredPart
 delivered-depends w sender seq records others l r = (
   rw (l, r),
   rw (l, r)
-      (after-same (deliveredReasons w sender seq others) (place w sender seq + 16) (λ at. part at payloadSize records) (λ at. part at payloadSize others) []
-      (shown-part w sender seq records ∙ ap (part 16 payloadSize) r ∙ sym (shown-part w sender seq others))),
+      (after-same (deliveredReasons w sender seq others) (place w sender seq + payloadAt) (λ at. part at payloadSize records) (λ at. part at payloadSize others) []
+      (shown-part w sender seq records ∙ ap (part payloadAt payloadSize) r ∙ sym (shown-part w sender seq others))),
 )

@@ -14,13 +14,13 @@ use borrow.Author.Tests.{ltb-true, ltb-false, lt-ltb}
 use Rattle.octets.specs.Octets.{part}
 use Rattle.octets.proofs.Numbers.{length-part}
 use Rattle.config.specs.declared.Config.{Config}
-use Rattle.config.specs.Config.{good, inRange, place, recordSize, recordsSize}
+use Rattle.config.specs.Config.{good, slots, inRange, place, recordSize, recordsSize}
 use Rattle.calls.specs.Records.{recordAt, stored}
 
 -- where a slot's record starts
-pub place-is : (w : Config) (sender seq : ℕ) → good w ≡ true → sender < w .n → seq < 16 → place w sender seq ≡ 32 * (16 * sender + seq)
+pub place-is : (w : Config) (sender seq : ℕ) → good w ≡ true → sender < w .n → seq < slots → place w sender seq ≡ recordSize * (slots * sender + seq)
 unfolding place inRange
-place-is w sender seq g hs hk = rw (g, lt-ltb sender (w .n) hs, lt-ltb seq 16 hk)
+place-is w sender seq g hs hk = rw (g, lt-ltb sender (w .n) hs, lt-ltb seq slots hk)
 
 -- a part of a list with other bytes at another place
 module _ (xs bytes : List ℕ) (at k : ℕ) (long : length bytes ≡ k) (room : at + k ≤ length xs) where
@@ -87,41 +87,41 @@ module _ (xs bytes : List ℕ) (at k : ℕ) (long : length bytes ≡ k) (room : 
 
 -- a slot in range lies within the buffer
 module _ (w : Config) (g : good w ≡ true) (records : List ℕ) (size : length records ≡ recordsSize w) where
-  place-fits : (sender seq : ℕ) → sender < w .n → seq < 16 → place w sender seq + 32 ≤ length records
+  place-fits : (sender seq : ℕ) → sender < w .n → seq < slots → place w sender seq + recordSize ≤ length records
   unfolding recordsSize
   place-fits sender seq hs hk = omega (arith, place-is w sender seq g hs hk)
 
-  pub recordAt-length : (sender seq : ℕ) → sender < w .n → seq < 16 → length (recordAt w sender seq records) ≡ recordSize
+  pub recordAt-length : (sender seq : ℕ) → sender < w .n → seq < slots → length (recordAt w sender seq records) ≡ recordSize
   unfolding recordAt
-  recordAt-length sender seq hs hk = length-part records (place w sender seq) 32 (place-fits sender seq hs hk)
+  recordAt-length sender seq hs hk = length-part records (place w sender seq) recordSize (place-fits sender seq hs hk)
 
-  module _ (sender seq : ℕ) (hs : sender < w .n) (hk : seq < 16) (bytes : List ℕ) (long : length bytes ≡ recordSize) where
+  module _ (sender seq : ℕ) (hs : sender < w .n) (hk : seq < slots) (bytes : List ℕ) (long : length bytes ≡ recordSize) where
     -- storing leaves the size,
     pub stored-length : length (stored w sender seq bytes records) ≡ length records
     unfolding stored pasted
-    stored-length = pasted-length records bytes (place w sender seq) 32 long (place-fits sender seq hs hk)
+    stored-length = pasted-length records bytes (place w sender seq) recordSize long (place-fits sender seq hs hk)
 
     -- is read back in its slot,
     pub stored-there : recordAt w sender seq (stored w sender seq bytes records) ≡ bytes
     unfolding stored recordAt
-    stored-there = paste-part records bytes (place w sender seq) 32 long (place-fits sender seq hs hk)
+    stored-there = paste-part records bytes (place w sender seq) recordSize long (place-fits sender seq hs hk)
 
     -- leaves every byte outside the record,
     pub stored-outside : (i : ℕ) → (i < place w sender seq) ⊎ (place w sender seq + recordSize ≤ i)
         → getD (stored w sender seq bytes records) i 0 ≡ getD records i 0
     unfolding stored pasted
-    stored-outside i apart = pasted-outside records bytes (place w sender seq) 32 long (place-fits sender seq hs hk) i apart
+    stored-outside i apart = pasted-outside records bytes (place w sender seq) recordSize long (place-fits sender seq hs hk) i apart
 
     -- and every other slot
-    pub stored-elsewhere : (s k : ℕ) → s < w .n → k < 16 → (s ≡ sender → k ≡ seq → ⊥)
+    pub stored-elsewhere : (s k : ℕ) → s < w .n → k < slots → (s ≡ sender → k ≡ seq → ⊥)
         → recordAt w s k (stored w sender seq bytes records) ≡ recordAt w s k records
     unfolding stored recordAt
     stored-elsewhere s k ls lk other =
-        paste-other records bytes (place w sender seq) 32 long (place-fits sender seq hs hk) (place w s k) 32 (place-fits s k ls lk)
+        paste-other records bytes (place w sender seq) recordSize long (place-fits sender seq hs hk) (place w s k) recordSize (place-fits s k ls lk)
         (apart (ltb s sender) (ltb sender s) (ltb k seq) (ltb seq k) refl refl refl refl)
       where
         apart : (a b c d : Bool) → ltb s sender ≡ a → ltb sender s ≡ b → ltb k seq ≡ c → ltb seq k ≡ d
-            → (place w s k + 32 ≤ place w sender seq) ⊎ (place w sender seq + 32 ≤ place w s k)
+            → (place w s k + recordSize ≤ place w sender seq) ⊎ (place w sender seq + recordSize ≤ place w s k)
         apart true b c d ea eb ec ed = inl (omega (arith, ltb-true s sender ea, place-is w sender seq g hs hk, place-is w s k g ls lk))
         apart false true c d ea eb ec ed = inr (omega (arith, ltb-true sender s eb, place-is w sender seq g hs hk, place-is w s k g ls lk))
         apart false false true d ea eb ec ed =
@@ -132,18 +132,18 @@ module _ (w : Config) (g : good w ≡ true) (records : List ℕ) (size : length 
             absurd (other (omega (arith, ltb-false s sender ea, ltb-false sender s eb)) (omega (arith, ltb-false k seq ec, ltb-false seq k ed)))
 
 -- in a buffer of zeros every record is zeros
-pub zeros-at : (w : Config) (sender seq : ℕ) → good w ≡ true → sender < w .n → seq < 16
+pub zeros-at : (w : Config) (sender seq : ℕ) → good w ≡ true → sender < w .n → seq < slots
     → recordAt w sender seq (replicate (recordsSize w) 0) ≡ replicate recordSize 0
 unfolding recordAt recordsSize
 zeros-at w sender seq g hs hk =
-    let zeros : List ℕ = replicate (512 * w .n) 0 in
-    let size : length zeros ≡ 512 * w .n = length-replicate {A = ℕ} (512 * w .n) 0 in
+    let zeros : List ℕ = replicate (recordSize * slots * w .n) 0 in
+    let size : length zeros ≡ recordSize * slots * w .n = length-replicate {A = ℕ} (recordSize * slots * w .n) 0 in
     let at : ℕ = place w sender seq in
-    let fit : at + 32 ≤ 512 * w .n = omega (arith, place-is w sender seq g hs hk) in
-    let long = length-part zeros at 32 (omega arith) in
-    ext-getD 0 (part at 32 zeros) (replicate 32 0) long
+    let fit : at + recordSize ≤ recordSize * slots * w .n = omega (arith, place-is w sender seq g hs hk) in
+    let long = length-part zeros at recordSize (omega arith) in
+    ext-getD 0 (part at recordSize zeros) (replicate recordSize 0) long
     (λ i small.
-    getD-take 32 (drop at zeros) i 0 (omega arith)
+    getD-take recordSize (drop at zeros) i 0 (omega arith)
     ∙ getD-drop at zeros i 0
-    ∙ getD-replicate (512 * w .n) (at + i) 0 0 (omega arith)
-    ∙ sym (getD-replicate 32 i 0 0 (omega arith)))
+    ∙ getD-replicate (recordSize * slots * w .n) (at + i) 0 0 (omega arith)
+    ∙ sym (getD-replicate recordSize i 0 0 (omega arith)))

@@ -13,7 +13,7 @@ use Rattle.config.specs.Config.{good, slots, inRange, place, recordsSize, quoru
 use Rattle.bundle.specs.declared.Header.{Header}
 use Rattle.bundle.specs.Bundle.{size, payloadSize, bundleOf, headerOf, read, payload}
 use Rattle.protocol.specs.Slot.{isDelivered, announcedBy, sends, Turn, take}
-use Rattle.record.specs.Record.{image, recordIn, wellFormed}
+use Rattle.record.specs.Record.{image, recordIn, wellFormed, payloadAt}
 use Rattle.calls.specs.Records.{recordAt, stored}
 use Rattle.calls.specs.Open.{openReasons, opened}
 use Rattle.calls.specs.Broadcast.{search, announcedHeader, broadcastReasons, broadcast, broadcastRecords, broadcastOut}
@@ -192,10 +192,10 @@ module _ (w : Config) (sender seq : ℕ) (records : List ℕ) where
                 ∙ stop 26 _ _ (failed x)
 
             pub delivered-done : isDelivered (recordIn (recordAt w sender seq records)) ≡ true
-                → delivered w sender seq records ≡ done (place w sender seq + 16)
+                → delivered w sender seq records ≡ done (place w sender seq + payloadAt)
             unfolding delivered deliveredReasons
             delivered-done x =
-                clear-done (deliveredReasons w sender seq records) (place w sender seq + 16)
+                clear-done (deliveredReasons w sender seq records) (place w sender seq + payloadAt)
                 (passed g, (passed (lt-ltb _ _ s), (passed (lt-ltb _ _ k), (passed (eq-eqb _ _ r), (passed f, (passed x, tt))))))
 
   -- what is shown is a record within the buffer
@@ -203,7 +203,7 @@ module _ (w : Config) (sender seq : ℕ) (records : List ℕ) where
       → (good w ≡ true) × (inRange w sender seq ≡ true) × (length records ≡ recordsSize w)
   unfolding delivered deliveredReasons
   delivered-says start e =
-      let clear = done-clear (deliveredReasons w sender seq records) (place w sender seq + 16) start e .0 in (
+      let clear = done-clear (deliveredReasons w sender seq records) (place w sender seq + payloadAt) start e .0 in (
         not-false _ (clear .0),
         in-range w sender seq (ltb-true _ _ (not-false _ (clear .1 .0))) (ltb-true _ _ (not-false _ (clear .1 .1 .0))),
         eqb-true _ _ (not-false _ (clear .1 .1 .1 .0)),

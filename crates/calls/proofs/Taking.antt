@@ -13,9 +13,9 @@ use Rattle.signers.specs.Signers.{member, within}
 use Rattle.refusal.specs.Outcome.{Outcome, refused, done, checked, _and-then_}
 use Rattle.refusal.proofs.Reasons.{Clear, refused-not-done, clear-done, done-clear}
 use Rattle.config.specs.declared.Config.{Config}
-use Rattle.config.specs.Config.{good, quorum, recordsSize}
+use Rattle.config.specs.Config.{good, quorum, slots, recordsSize}
 use Rattle.bundle.specs.declared.Header.{Header}
-use Rattle.bundle.specs.Bundle.{payloadStart, payloadSize, dayOf, headerOf, headerReasons, read, payload}
+use Rattle.bundle.specs.Bundle.{size, payloadStart, payloadSize, dayOf, headerOf, headerReasons, read, payload}
 use Rattle.bundle.proofs.Accepted.{accepted-readable, accepted-payload}
 use Rattle.protocol.specs.Slot.{Record, Turn, take}
 use Rattle.protocol.proofs.Sound.{Bundled}
@@ -29,12 +29,12 @@ pub record Read (w : Config) (bundle : List ℕ) (h : Header) : Type 0 where
   pub fields : headerOf bundle ≡ h
   pub today : dayOf bundle ≡ w .day
   pub sender-known : h .sender < w .n
-  pub slot : h .seq < 16
+  pub slot : h .seq < slots
   pub bundled : Bundled (w .n) (h .sender) (h .signers) (payload w bundle)
   pub content : payload w bundle ≡ part payloadStart payloadSize bundle
 
 header-clear : (w : Config) (h : Header) → Clear (headerReasons w h)
-    → (h .sender < w .n) × (h .seq < 16) × (within (h .signers) (w .n) ≡ true) × (member (h .signers) (h .sender) ≡ true)
+    → (h .sender < w .n) × (h .seq < slots) × (within (h .signers) (w .n) ≡ true) × (member (h .signers) (h .sender) ≡ true)
 unfolding headerReasons
 header-clear w h c =
     (ltb-true _ _ (not-false _ (c .0)), ltb-true _ _ (not-false _ (c .1 .0)), not-false _ (c .1 .1 .0), not-false _ (c .1 .1 .1 .0))
@@ -44,19 +44,19 @@ read-says w bundle h e =
     let (ok, same) = accepted-readable w bundle h e in
     let c = header-clear w h (subst (λ (x : Header). Clear (headerReasons w x)) same (ok .clear)) in
     let last = accepted-payload w bundle h e .0 in
-    let long : length bundle ≡ 32 = ok .long in
+    let long : length bundle ≡ size = ok .long in
     record {
       configured = ok .configured;
       fields = same;
       today = ok .today;
       sender-known = c .0;
       slot = c .1;
-      bundled = record { known = c .2; authentic = c .3; whole = ap length last ∙ length-part bundle 16 16 (omega arith) };
+      bundled = record { known = c .2; authentic = c .3; whole = ap length last ∙ length-part bundle payloadStart payloadSize (omega arith) };
       content = last;
     }
 
 lengths : (w : Config) (bundle records out : List ℕ) (h : Header) → Clear (receiveReasons w bundle records out h)
-    → (length out ≡ 32) × (length records ≡ recordsSize w)
+    → (length out ≡ size) × (length records ≡ recordsSize w)
 unfolding receiveReasons
 lengths w bundle records out h c = (eqb-true _ _ (not-false _ (c .0)), eqb-true _ _ (not-false _ (c .1 .0)))
 
@@ -74,7 +74,7 @@ module _ (w : Config) (bundle records out : List ℕ) where
     receive-checked c = rw (e, c)
 
     -- a sound record is taken as the step says
-    pub receive-takes : (r : Record) → length out ≡ 32 → length records ≡ recordsSize w → recordAt w (h .sender) (h .seq) records ≡ image r
+    pub receive-takes : (r : Record) → length out ≡ size → length records ≡ recordsSize w → recordAt w (h .sender) (h .seq) records ≡ image r
         → wellFormed w (h .sender) (image r) ≡ true → recordIn (image r) ≡ r
         → receive w bundle records out ≡ take (w .own) (quorum w) (h .signers) (payload w bundle) r
     unfolding receiveReasons
@@ -86,14 +86,14 @@ module _ (w : Config) (bundle records out : List ℕ) where
 
     -- a bundle that is taken found 32 outgoing bytes, a buffer of the right size, and some record
     pub receive-done : (turn : Turn) → receive w bundle records out ≡ done turn
-        → (length out ≡ 32) × (length records ≡ recordsSize w)
+        → (length out ≡ size) × (length records ≡ recordsSize w)
         × (take (w .own) (quorum w) (h .signers) (payload w bundle) (recordIn (recordAt w (h .sender) (h .seq) records)) ≡ done turn)
     unfolding receive
     receive-done turn f = go (checked (receiveReasons w bundle records out h)) refl (rw e at f)
       where
         go : (o : Outcome Unit) → checked (receiveReasons w bundle records out h) ≡ o
             → (o and-then λ _. take (w .own) (quorum w) (h .signers) (payload w bundle) (recordIn (recordAt w (h .sender) (h .seq) records))) ≡ done turn
-            → (length out ≡ 32) × (length records ≡ recordsSize w)
+            → (length out ≡ size) × (length records ≡ recordsSize w)
             × (take (w .own) (quorum w) (h .signers) (payload w bundle) (recordIn (recordAt w (h .sender) (h .seq) records)) ≡ done turn)
         go (refused number) c t = absurd (refused-not-done number turn t)
         go (done first) c t =

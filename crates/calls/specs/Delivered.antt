@@ -11,7 +11,7 @@ use Rattle.config.specs.declared.Config.{Config}
 use Rattle.config.specs.Config.{good, slots, place}
 use Rattle.bundle.specs.Bundle.{payloadSize}
 use Rattle.protocol.specs.Slot.{isDelivered}
-use Rattle.record.specs.Record.{wellFormed, recordIn}
+use Rattle.record.specs.Record.{wellFormed, recordIn, payloadAt}
 use Rattle.calls.specs.Records.{recordAt, wrongSize}
 
 module _ (w : Config) (sender seq : ℕ) (records : List ℕ) where
@@ -26,9 +26,9 @@ module _ (w : Config) (sender seq : ℕ) (records : List ℕ) where
       ∷ (26 if not (isDelivered (recordIn (recordAt w sender seq records))))
       ∷ []
 
-  -- it gives the place of the payload: behind the record's sixteen first bytes
+  -- it gives the place of the payload
   unfoldable pub delivered : Outcome ℕ
-  delivered = unless deliveredReasons (place w sender seq + 16)
+  delivered = unless deliveredReasons (place w sender seq + payloadAt)
 
   unfoldable pub deliveredPart : List ℕ
   deliveredPart = after delivered (λ start. part start payloadSize records) []

@@ -6,30 +6,17 @@ use mathlib.Core.Bool.{true, true≢false, false≢true}
 use mathlib.Core.List.{List}
 use Prim.Native.Nat.{ℕ, _≤_, _<_}
 use native.Mathlib.Omega.{arith}
-use lib.Dec.{eqb}
-use borrow.Author.Tests.{eqb-true}
 use Rattle.octets.proofs.Same.{same-self}
-use Rattle.signers.specs.Sets.{NodeSet, count}
-use Rattle.signers.specs.Signers.{member, union, size, within}
-use Rattle.signers.proofs.Counting.{count-mono, count-single}
-use Rattle.signers.proofs.Members.{within-lt, within-says, within-union, size-count, size-mono, size-insert}
+use Rattle.signers.specs.Sets.{NodeSet}
+use Rattle.signers.specs.Signers.{member, union, size}
+use Rattle.signers.proofs.Members.{insert-keeps, union-left, union-right, within-lt, within-union, size-mono, size-some, size-insert}
 use Rattle.refusal.specs.Outcome.{Outcome, after}
 use Rattle.protocol.specs.Slot.{Record, Empty, Held, Delivered, Turn}
 use Rattle.protocol.specs.Trace.{Trace, _then_calls_, ever}
 use Rattle.protocol.specs.OneSlot.{Act, hand, handed, record-of, some, correct, Allowed, Lawful}
 use Rattle.protocol.proofs.Turns.{Why, unknown, weak, Turned, refuses, announces, signs, delivers-first, joins, completes, replaces}
 use Rattle.protocol.proofs.Steps.{Seen, by-steps}
-use Rattle.protocol.proofs.Known.{insert-keeps, union-left, union-right, correct-below, Known, known}
-
--- a set with a member counts at least 1
-pub count-some : (p : NodeSet) (n v : ℕ) → v < n → p v ≡ true → 0 < count p n
-count-some p n v below m =
-    let single = count-mono (λ u. eqb u v) p n (λ u l e. rw (eqb-true u v e) m) in
-    omega (arith, count-single v n below)
-
--- and so does a word
-size-some : (a n v : ℕ) → within a n ≡ true → member a v ≡ true → 0 < size a
-size-some a n v h m = omega (arith, count-some (member a) n v (within-says a n v h m) m, size-count a n (within-lt a n h))
+use Rattle.protocol.proofs.Known.{correct-below, Known, known}
 
 -- what the bundle leaves in the record
 abbrev pub Absorbed : ℕ → ℕ → List ℕ → Record → Type 0

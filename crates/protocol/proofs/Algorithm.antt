@@ -5,24 +5,19 @@ use mathlib.Core.Path.{_≡_, refl, sym, ap, _∙_}
 use mathlib.Core.Logic.{inl, inr}
 use mathlib.Core.Bool.{Bool, true, false, cond, and-false}
 use mathlib.Core.List.{List, [], _∷_}
-use Prim.Native.Nat.{ℕ, _+_, _^_, zero-le}
+use Prim.Native.Nat.{ℕ, _+_, _^_}
 use lib.Bits.{bitOr, or-zero-l, or-zero-r}
 use lib.Dec.{leb, ltb}
-use lib.Pow.{pow-pos}
 use borrow.Author.Tests.{ltb-true, lt-leb, eq-eqb}
 use Rattle.octets.specs.Octets.{same}
 use Rattle.octets.proofs.Same.{same-says, same-self, same-flip}
 use Rattle.signers.specs.Signers.{member, insert, union, size}
-use Rattle.signers.proofs.Members.{member-below}
+use Rattle.signers.proofs.Members.{nobody}
 use Rattle.refusal.specs.Outcome.{unless}
 use Rattle.protocol.specs.Slot.{Record, Empty, Held, Delivered, payloadOf, isEmpty, Turn, kept, signed, delivered, announcedBy, takeReasons, gathered, taken, take}
 use Rattle.protocol.specs.Algorithm.{State, Run, save, sign, bundleEffect, onBroadcast, line9, line5, andLine9, onBundle, keepOne, sendOnce, stateOf, effectsOf, SameState, BroadcastFollows, Follows, TakeFollows}
 
 -- ---- words and messages
-
--- nobody is in the empty word
-nobody : (u : ℕ) → member 0 u ≡ false
-nobody u = member-below 0 0 u (pow-pos 0) zero-le
 
 -- joining the word of one node inserts it
 one-joined : (sigs own : ℕ) → union sigs (insert 0 own) ≡ insert sigs own

@@ -12,8 +12,8 @@ use borrow.Author.Tests.{eqb-true, eq-eqb, lt-ltb}
 use Rattle.octets.specs.Octets.{same}
 use Rattle.signers.specs.Sets.{NodeSet, count, both}
 use Rattle.signers.specs.Signers.{member, size}
-use Rattle.signers.proofs.Counting.{count-same, count-mono, count-rest, some-member, pigeonhole}
-use Rattle.signers.proofs.Members.{within-lt, size-count}
+use Rattle.signers.proofs.Counting.{count-same, count-mono, count-rest, count-some, some-member, pigeonhole}
+use Rattle.signers.proofs.Members.{insert-own, within-lt, size-count}
 use Rattle.refusal.specs.Outcome.{Outcome, refused, done, after, unless}
 use Rattle.protocol.specs.Slot.{Record, Empty, Held, Delivered, signersOf, payloadOf, isEmpty, Turn, sends, announcedBy}
 use Rattle.protocol.specs.Trace.{Trace}
@@ -21,9 +21,9 @@ use Rattle.protocol.specs.OneSlot.{Act, announce, hand, play, next, send
 use Rattle.protocol.proofs.Traces.{ever-finds, ever-mono}
 use Rattle.protocol.proofs.Steps.{sendsThis, signsThis}
 use Rattle.protocol.proofs.Told.{delivered-record, record-delivered}
-use Rattle.protocol.proofs.Known.{insert-own, correct-below, Known, known, signed-one}
+use Rattle.protocol.proofs.Known.{correct-below, Known, known, signed-one}
 use Rattle.protocol.proofs.Vouched.{sender-signed, vouched}
-use Rattle.protocol.proofs.Absorbed.{count-some, Absorbed, absorbed}
+use Rattle.protocol.proofs.Absorbed.{Absorbed, absorbed}
 use Rattle.protocol.proofs.Safety.{delivered-known, agreement}
 
 -- ---- acts that pass one test pass another

@@ -3,18 +3,18 @@
 -- Assumes nothing.
 use mathlib.Core.Path.{_≡_, refl, sym, _∙_, subst}
 use mathlib.Core.Logic.{_⊎_, inl, inr}
-use mathlib.Core.Bool.{Bool, true, false, not, _&&_, true≢false, false≢true, or-true, and-eq-true-iff}
+use mathlib.Core.Bool.{Bool, true, false, not, _&&_, true≢false, false≢true, and-eq-true-iff}
 use mathlib.Core.List.{List}
-use Prim.Native.Nat.{ℕ, _≤_, _<_, zero-le}
+use Prim.Native.Nat.{ℕ, _≤_, _<_}
 use native.Mathlib.Omega.{arith}
 use lib.Dec.{ltb, eqb, lit<}
 use lib.Pow.{pow-pos}
-use borrow.Author.Tests.{ltb-true, eqb-true, eq-eqb}
+use borrow.Author.Tests.{ltb-true, eqb-true}
 use Rattle.octets.specs.Octets.{same}
 use Rattle.octets.proofs.Same.{same-says, same-self}
 use Rattle.signers.specs.Sets.{NodeSet, count}
 use Rattle.signers.specs.Signers.{member, insert, union, size, within}
-use Rattle.signers.proofs.Members.{member-below, member-union, member-insert, lt-within, within-union, within-insert, size-count, size-insert}
+use Rattle.signers.proofs.Members.{nobody, insert-own, insert-keeps, union-left, member-union, member-insert, lt-within, within-union, within-insert, size-count, size-insert}
 use Rattle.refusal.specs.Outcome.{Outcome, refused, after}
 use Rattle.protocol.specs.Slot.{Record, Empty, Held, Delivered, Turn}
 use Rattle.protocol.specs.Trace.{Trace, _then_calls_, ever}
@@ -23,27 +23,10 @@ use Rattle.protocol.proofs.Traces.{ever-grows}
 use Rattle.protocol.proofs.Turns.{Turned, refuses, announces, signs, delivers-first, joins, completes, replaces}
 use Rattle.protocol.proofs.Steps.{or-cases, signsThis, Seen, by-steps}
 
--- no node is in the empty word, so its size is 0
-member-none : (u : ℕ) → member 0 u ≡ false
-member-none u = member-below 0 0 u (lit< tt) zero-le
-
+-- the empty word has nobody
 size-none : size 0 ≡ 0
 unfolding count
 size-none = size-count 0 0 (lit< tt)
-
--- a node that is inserted is in, and so is every node that was in
-pub insert-own : (a u : ℕ) → u < 64 → member (insert a u) u ≡ true
-insert-own a u h = member-insert a u u h ∙ rw (eq-eqb u u refl) (or-true (member a u))
-
-pub insert-keeps : (a v u : ℕ) → v < 64 → member a u ≡ true → member (insert a v) u ≡ true
-insert-keeps a v u h m = member-insert a v u h ∙ rw m
-
--- every node of either word is in their union
-pub union-left : (a b u : ℕ) → member a u ≡ true → member (union a b) u ≡ true
-union-left a b u m = member-union a b u ∙ rw m
-
-pub union-right : (a b u : ℕ) → member b u ≡ true → member (union a b) u ≡ true
-union-right a b u m = member-union a b u ∙ rw m (or-true (member a u))
 
 -- a correct node is one of the n
 pub correct-below : (n : ℕ) (faulty : NodeSet) (u : ℕ) → correct n faulty u ≡ true → u < n
@@ -184,13 +167,13 @@ module _ (n q sender : ℕ) (faulty : NodeSet) where
   known-step fits earlier u caller act r o (refuses {number = number} why) seen a below before = known-still earlier caller act u r number seen before
   known-step fits earlier u caller act r o (announces {payload = payload} own) seen a below before =
       let room : u < 64 = omega arith in
-      let none : Backed earlier 0 payload = record { inside = lt-within 0 n (pow-pos n); signed = λ v c m. absurd (true≢false (sym m ∙ member-none v)) } in
+      let none : Backed earlier 0 payload = record { inside = lt-within 0 n (pow-pos n); signed = λ v c m. absurd (true≢false (sym m ∙ nobody v)) } in
       let now : some q (signing q payload) (earlier then caller calls act) u ≡ true = seen .signed payload ∙ rw (same-self payload, insert-own 0 u room) in
       record {
         backed = backed-insert earlier caller act 0 u payload below room none now;
         begun = subst (λ (w : ℕ). member (insert 0 u) w ≡ true) (own ∙ a) (insert-own 0 u room);
         own = insert-own 0 u room;
-        few = λ l. omega (arith, size-insert 0 u room (member-none u), size-none);
+        few = λ l. omega (arith, size-insert 0 u room (nobody u), size-none);
         voice =
             voice-on earlier caller act u r o seen payload (λ other e. signs-says payload other _ e) (λ other e. absurd (before other e))
             (λ s. seen .announced payload own (same-self payload));

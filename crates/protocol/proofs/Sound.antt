@@ -2,17 +2,17 @@
 -- see the laws of the crate `record`. From the definitions of specs/Slot.antt and the laws of signers.
 -- Assumes nothing.
 use mathlib.Core.Path.{_≡_, refl, sym, ap, ap₂, _∙_, subst}
-use mathlib.Core.Bool.{Bool, true, false, cond, _&&_, _||_, not, true≢false, or-true}
+use mathlib.Core.Bool.{Bool, true, false, cond, _&&_, _||_, not, true≢false}
 use mathlib.Core.List.{List}
 use Prim.Native.Nat.{ℕ, _≤_, _<_}
 use native.Mathlib.Omega.{arith}
 use lib.Dec.{eqb, leb}
 use lib.ListN.{length}
 use lib.Pow.{pow-pos}
-use borrow.Author.Tests.{leb-true, leb-false, lt-ltb, eq-eqb}
+use borrow.Author.Tests.{leb-true, leb-false, lt-ltb}
 use Rattle.octets.specs.Octets.{same}
 use Rattle.signers.specs.Signers.{member, within, insert, union, size}
-use Rattle.signers.proofs.Members.{member-union, member-insert, within-union, within-insert, lt-within}
+use Rattle.signers.proofs.Members.{insert-own, member-union, member-insert, within-union, within-insert, lt-within}
 use Rattle.refusal.specs.Outcome.{done}
 use Rattle.refusal.proofs.Reasons.{Clear, done-clear}
 use Rattle.protocol.specs.Slot.{Record, Empty, Held, Delivered, signersOf, payloadOf, isEmpty, Turn, announcedBy, takeReasons, gathered, taken, take}
@@ -34,11 +34,6 @@ pub sound-bundled : (n sender q own : ℕ) (r : Record) → isEmpty r ≡ false 
 sound-bundled n sender q own Empty e h = absurd (true≢false e)
 sound-bundled n sender q own (Held signers payload) e h = h .0
 sound-bundled n sender q own (Delivered signers payload) e h = h .0
-
--- a node that is inserted is a member
-insert-own : (signers own : ℕ) → own < 64 → member (insert signers own) own ≡ true
-insert-own signers own fits =
-    member-insert signers own own fits ∙ ap (λ (b : Bool). member signers own || b) (eq-eqb own own refl) ∙ or-true (member signers own)
 
 -- an announcement has the node's own signature alone
 pub announced-sound : (n q own : ℕ) (payload : List ℕ) → own < n → n ≤ 64 → length payload ≡ 16 → Sound n own q own (announcedBy own payload)

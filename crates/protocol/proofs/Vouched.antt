@@ -6,6 +6,7 @@ use Prim.Native.Nat.{ℕ, _≤_}
 use native.Mathlib.Omega.{arith}
 use Rattle.octets.proofs.Same.{same-self}
 use Rattle.signers.specs.Sets.{NodeSet}
+use Rattle.signers.proofs.Members.{insert-own}
 use Rattle.refusal.specs.Outcome.{Outcome, after}
 use Rattle.protocol.specs.Slot.{Record, Empty, Held, Delivered, Turn, isEmpty, payloadOf}
 use Rattle.protocol.specs.Trace.{Trace, _then_calls_}
@@ -13,7 +14,7 @@ use Rattle.protocol.specs.OneSlot.{Act, next, signing, record-of, some, 
 use Rattle.protocol.proofs.Traces.{ever-grows}
 use Rattle.protocol.proofs.Turns.{Turned, refuses, announces, signs, delivers-first, joins, completes, replaces}
 use Rattle.protocol.proofs.Steps.{Seen, by-steps}
-use Rattle.protocol.proofs.Known.{insert-own, correct-below, Known, known, signed-one}
+use Rattle.protocol.proofs.Known.{correct-below, Known, known, signed-one}
 
 -- the node has signed the payload of its record
 abbrev pub Vouched : ℕ → Trace Act → ℕ → Record → Type 0

@@ -31,8 +31,12 @@ stateIn bytes = getD bytes 0 0
 abbrev pub signersIn : List ℕ → ℕ
 signersIn bytes = number (part 8 8 bytes)
 
+-- the payload starts behind the state and the signers
+abbrev pub payloadAt : ℕ
+payloadAt = 16
+
 abbrev pub payloadIn : List ℕ → List ℕ
-payloadIn bytes = part 16 16 bytes
+payloadIn bytes = part payloadAt 16 bytes
 
 -- the record that sound bytes write
 unfoldable pub recordIn : List ℕ → slot.Record

@@ -142,6 +142,12 @@ count-single v (suc n) h = go (count-single v n) (eqb n v) refl
         rw (e, rest)
     go below false e = let other = eqb-false n v e in rw (e, below (lt-of-le-ne (omega arith) (λ q. other (sym q))))
 
+-- a set with a member counts at least 1
+pub count-some : (p : NodeSet) (n v : ℕ) → v < n → p v ≡ true → 0 < count p n
+count-some p n v below m =
+    let single = count-mono (λ u. eqb u v) p n (λ u l e. rw (eqb-true u v e) m) in
+    omega (arith, count-single v n below)
+
 -- ---- a node behind a count
 
 -- the larger of two sets has a node that the other lacks

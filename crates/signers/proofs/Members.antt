@@ -1,6 +1,6 @@
 -- Words as sets of nodes: the members of a union and of an insertion, what it means that a word is within n, and that the count of a word's ones
 -- is the number of its members. From the definitions of specs/Signers.antt and the laws of counts, for words of any length n. Assumes nothing.
-use mathlib.Core.Bool.{Bool, true, false, cond, _&&_, _||_, true≢false, and-false, or-false}
+use mathlib.Core.Bool.{Bool, true, false, cond, _&&_, _||_, true≢false, and-false, or-false, or-true}
 use mathlib.Core.Logic.{_⊎_, inl, inr}
 use mathlib.Core.Path.{_≡_, refl, sym, ap, ap₂, _∙_}
 use Prim.Native.Nat.{ℕ, zero, suc, _+_, _*_, _/_, _%_, _^_, _-_, _≤_, _<_, zero-le, suc-le-suc}
@@ -14,7 +14,7 @@ use lib.Dec.{ltb, eqb, leb·suc-suc, eqb·suc-suc, eqb·zero-suc, eqb·suc-zero,
 use lib.Pow.{pow-pos, pow-mono, pow-lt, shr-shr, shl-exact}
 use Rattle.signers.specs.Sets.{NodeSet, one, count, both, either}
 use Rattle.signers.specs.Signers.{member, insert, union, size, within}
-use Rattle.signers.proofs.Counting.{count-same, count-mono, count-none, count-single, count-first, count-either, quorums-share-correct}
+use Rattle.signers.proofs.Counting.{count-same, count-mono, count-none, count-single, count-some, count-first, count-either, quorums-share-correct}
 
 -- ---- the bits of a word
 
@@ -127,6 +127,24 @@ insert-past a v h = rw (le-ltb v 64 h)
 pub member-insert : (a v u : ℕ) → v < 64 → member (insert a v) u ≡ (member a u || eqb u v)
 member-insert a v u h = rw (insert-bit a v h, member-union, member-power)
 
+-- so it is in, and so is every node that was in
+pub insert-own : (a v : ℕ) → v < 64 → member (insert a v) v ≡ true
+insert-own a v h = member-insert a v v h ∙ rw (eq-eqb v v refl) (or-true (member a v))
+
+pub insert-keeps : (a v u : ℕ) → v < 64 → member a u ≡ true → member (insert a v) u ≡ true
+insert-keeps a v u h m = member-insert a v u h ∙ rw m
+
+-- every node of either word is in their union
+pub union-left : (a b u : ℕ) → member a u ≡ true → member (union a b) u ≡ true
+union-left a b u m = member-union a b u ∙ rw m
+
+pub union-right : (a b u : ℕ) → member b u ≡ true → member (union a b) u ≡ true
+union-right a b u m = member-union a b u ∙ rw m (or-true (member a u))
+
+-- nobody is in the empty word
+pub nobody : (u : ℕ) → member 0 u ≡ false
+nobody u = member-below 0 0 u (pow-pos 0) zero-le
+
 -- ---- words within n
 
 -- within n: below 2 to the power n
@@ -221,6 +239,10 @@ size-union a b =
 -- a word whose members are all in another is no larger, so a union has no fewer members than either word
 pub size-mono : (a b n : ℕ) → a < 2 ^ n → b < 2 ^ n → ((u : ℕ) → u < n → member a u ≡ true → member b u ≡ true) → size a ≤ size b
 size-mono a b n ha hb h = omega (arith, size-count a n ha, size-count b n hb, count-mono (member a) (member b) n h)
+
+-- a word with a member counts at least 1
+pub size-some : (a n v : ℕ) → within a n ≡ true → member a v ≡ true → 0 < size a
+size-some a n v h m = omega (arith, count-some (member a) n v (within-says a n v h m) m, size-count a n (within-lt a n h))
 
 -- a node is one signer
 size-power : (v : ℕ) → size (2 ^ v) ≡ 1

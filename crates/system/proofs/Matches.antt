@@ -15,10 +15,10 @@ use Rattle.signers.specs.Signers.{insert}
 use Rattle.refusal.specs.Outcome.{Outcome, refused, done, _if_, after}
 use Rattle.refusal.proofs.Reasons.{clear-done, refused-not-done}
 use Rattle.config.specs.declared.Config.{Config}
-use Rattle.config.specs.Config.{good, quorum, recordsSize}
+use Rattle.config.specs.Config.{good, quorum, slots, recordSize, recordsSize}
 use Rattle.config.proofs.Laws.{good-says, says-good}
 use Rattle.bundle.specs.declared.Header.{Header}
-use Rattle.bundle.specs.Bundle.{bundleOf, dayOf, headerOf, read, payload}
+use Rattle.bundle.specs.Bundle.{size, payloadSize, bundleOf, dayOf, headerOf, read, payload}
 use Rattle.protocol.specs.Slot as slot
 use Rattle.protocol.specs.Slot.{Record, Empty, Turn, signersOf, payloadOf, isEmpty, announced, announcedBy, take}
 use Rattle.protocol.specs.OneSlot.{Act, announce, hand, play, next, delivering, deliveringThis, sending, announcing, handed}
@@ -136,12 +136,12 @@ open-zeros w records g size =
     (clear-done (openReasons w records) (replicate (length records) 0) (ap not g, (ap not (eq-eqb (length records) (recordsSize w) size), tt)))
     ∙ ap (λ (k : ℕ). replicate k 0) size
 
-empty-image : replicate 32 0 ≡ image Empty
+empty-image : replicate recordSize 0 ≡ image Empty
 unfolding image
 empty-image = refl
 
 -- an announcement on an empty record, and what it leaves and sends
-announced-length : (u : ℕ) (content : List ℕ) → length content ≡ 16 → length (image (announcedBy u content)) ≡ 32
+announced-length : (u : ℕ) (content : List ℕ) → length content ≡ payloadSize → length (image (announcedBy u content)) ≡ recordSize
 unfolding announcedBy
 announced-length u content whole = image-length (announcedBy u content) (λ e. whole)
 
@@ -172,8 +172,8 @@ module _ (s : System) (g : good (config s 0) ≡ true) (u : ℕ) (l : u < s .sha
   most = good-says (config s 0) g .most
 
   -- storing another slot's record leaves this one's bytes; storing this slot's puts them there
-  module _ (sender seq : ℕ) (hs : sender < s .shared .n) (hk : seq < 16) (records : List ℕ) where
-    stores-elsewhere : (a b : ℕ) (r t : Record) → a < s .shared .n → b < 16 → (eqb a sender && eqb b seq) ≡ false → length (image t) ≡ 32
+  module _ (sender seq : ℕ) (hs : sender < s .shared .n) (hk : seq < slots) (records : List ℕ) where
+    stores-elsewhere : (a b : ℕ) (r t : Record) → a < s .shared .n → b < slots → (eqb a sender && eqb b seq) ≡ false → length (image t) ≡ recordSize
         → Holds s sender seq u records r → Holds s sender seq u (stored (config s u) a b (image t) records) r
     unfolding config
     stores-elsewhere a b r t ha hb other long holds =
@@ -186,7 +186,7 @@ module _ (s : System) (g : good (config s 0) ≡ true) (u : ℕ) (l : u < s .sha
           sound = holds .sound;
         }
 
-    stores-here : (t : Record) → length (image t) ≡ 32 → length records ≡ recordsSize (config s u) → Sound (s .shared .n) sender (quorumOf s) u t
+    stores-here : (t : Record) → length (image t) ≡ recordSize → length records ≡ recordsSize (config s u) → Sound (s .shared .n) sender (quorumOf s) u t
         → Holds s sender seq u (stored (config s u) sender seq (image t) records) t
     unfolding config
     stores-here t long size sound =
@@ -197,7 +197,7 @@ module _ (s : System) (g : good (config s 0) ≡ true) (u : ℕ) (l : u < s .sha
         }
 
   -- opening
-  open-match : (sender seq : ℕ) (records : List ℕ) (r : Record) → sender < s .shared .n → seq < 16
+  open-match : (sender seq : ℕ) (records : List ℕ) (r : Record) → sender < s .shared .n → seq < slots
       → length records ≡ recordsSize (config s u) → r ≡ Empty → Quiet s sender seq u Open records r
   unfolding deliversIn sendsIn sends announces reaches recordsAfter config
   open-match sender seq records r hs hk size e =
@@ -234,7 +234,7 @@ module _ (s : System) (g : good (config s 0) ≡ true) (u : ℕ) (l : u < s .sha
       }
 
   -- announcing in another slot
-  elsewhere-match : (sender seq : ℕ) → sender < s .shared .n → seq < 16 → (content out records : List ℕ) (r : Record) (k : ℕ)
+  elsewhere-match : (sender seq : ℕ) → sender < s .shared .n → seq < slots → (content out records : List ℕ) (r : Record) (k : ℕ)
       → broadcast (config s u) content records out ≡ done k → (eqb u sender && eqb k seq) ≡ false
       → Holds s sender seq u records r → Quiet s sender seq u (Broadcast content out) records r
   unfolding deliversIn sendsIn sends outAfter announces reaches recordsAfter broadcastRecords broadcastOut config
@@ -250,7 +250,7 @@ module _ (s : System) (g : good (config s 0) ≡ true) (u : ℕ) (l : u < s .sha
       done-here : Announced (config s u) content records out k
       done-here = broadcast-done (config s u) content records out k e
 
-      long : length (image (announcedBy u content)) ≡ 32
+      long : length (image (announcedBy u content)) ≡ recordSize
       long = announced-length u content (done-here .whole)
 
       apart : u ≡ sender → eqb k seq ≡ false
@@ -274,7 +274,7 @@ module _ (s : System) (g : good (config s 0) ≡ true) (u : ℕ) (l : u < s .sha
       done-here : Announced (config s u) content records out seq
       done-here = broadcast-done (config s u) content records out seq e
 
-      long : length (image (announcedBy u content)) ≡ 32
+      long : length (image (announcedBy u content)) ≡ recordSize
       long = announced-length u content (done-here .whole)
 
       empty : isEmpty r ≡ true
@@ -297,12 +297,12 @@ module _ (s : System) (g : good (config s 0) ≡ true) (u : ℕ) (l : u < s .sha
           (rw e (announced-bundle (s .shared .day) u seq content), announced-bundled (s .shared .n) u content (quorumOf s) sound-here)
 
   -- a bundle that a correct node could have sent in the slot, handed with 32 outgoing bytes, is read as it was put together
-  reached-read : (sender seq : ℕ) → sender < s .shared .n → seq < 16 → s .shared .day < 2 ^ 32 → (bundle out records : List ℕ) (signers : ℕ) (content : List ℕ)
+  reached-read : (sender seq : ℕ) → sender < s .shared .n → seq < slots → s .shared .day < 2 ^ 32 → (bundle out records : List ℕ) (signers : ℕ) (content : List ℕ)
       → Bundled (s .shared .n) sender signers content → reaches s (bundleIn s sender seq signers content) u (Receive bundle out) records ≡ true
-      → (read (config s u) bundle ≡ done (slotHeader sender seq signers)) × (payload (config s u) bundle ≡ content) × (eqb (length out) 32 ≡ true)
+      → (read (config s u) bundle ≡ done (slotHeader sender seq signers)) × (payload (config s u) bundle ≡ content) × (eqb (length out) size ≡ true)
   unfolding reaches config
   reached-read sender seq hs hk dated bundle out records signers content b x =
-      let both = and-eq-true-iff (same bundle (bundleIn s sender seq signers content)) (eqb (length out) 32) .0 x in
+      let both = and-eq-true-iff (same bundle (bundleIn s sender seq signers content)) (eqb (length out) size) .0 x in
       let given : bundle ≡ bundleIn s sender seq signers content = same-says bundle (bundleIn s sender seq signers content) (both .0) in
       let back = sent-reads (config s u) (slotHeader sender seq signers) content good-here dated hs hk b in
       (ap (read (config s u)) given ∙ back .0, ap (payload (config s u)) given ∙ back .1, both .1)
@@ -323,7 +323,7 @@ module _ (s : System) (g : good (config s 0) ≡ true) (u : ℕ) (l : u < s .sha
       }
 
   -- a bundle of another slot
-  module _ (sender seq : ℕ) (hs : sender < s .shared .n) (hk : seq < 16) (dated : s .shared .day < 2 ^ 32) (bundle out records : List ℕ) (r : Record)
+  module _ (sender seq : ℕ) (hs : sender < s .shared .n) (hk : seq < slots) (dated : s .shared .day < 2 ^ 32) (bundle out records : List ℕ) (r : Record)
       (h : Header) (e : read (config s u) bundle ≡ done h) (other : (eqb (h .sender) sender && eqb (h .seq) seq) ≡ false) where
     other-unreached : (signers : ℕ) (content : List ℕ) → Bundled (s .shared .n) sender signers content
         → reaches s (bundleIn s sender seq signers content) u (Receive bundle out) records ≡ true → ⊥
@@ -362,8 +362,8 @@ module _ (s : System) (g : good (config s 0) ≡ true) (u : ℕ) (l : u < s .sha
         sender-in : headerOf bundle .sender < s .shared .n
         sender-in = subst (λ (k : Header). k .sender < s .shared .n) (sym (accepted .fields)) (accepted .sender-known)
 
-        slot-in : headerOf bundle .seq < 16
-        slot-in = subst (λ (k : Header). k .seq < 16) (sym (accepted .fields)) (accepted .slot)
+        slot-in : headerOf bundle .seq < slots
+        slot-in = subst (λ (k : Header). k .seq < slots) (sym (accepted .fields)) (accepted .slot)
 
         sent : (b : Bool)
             → (b && inSlot (s .shared .day) sender seq (cond b (answerTo s bundle (turn .after)) out)) ≡ false
@@ -375,7 +375,7 @@ module _ (s : System) (g : good (config s 0) ≡ true) (u : ℕ) (l : u < s .sha
         content : payloadOf (turn .after) ≡ payload (config s u) bundle
         content = take-payload _ _ _ _ _ turn (receive-done (config s u) bundle records out h e turn f .2) .1
 
-        long : length (image (turn .after)) ≡ 32
+        long : length (image (turn .after)) ≡ recordSize
         long = image-length (turn .after) (λ x. ap length content ∙ accepted .bundled .whole)
 
     other-match : Holds s sender seq u records r → Quiet s sender seq u (Receive bundle out) records r
@@ -386,8 +386,8 @@ module _ (s : System) (g : good (config s 0) ≡ true) (u : ℕ) (l : u < s .sha
         go (done turn) f = other-done turn f holds
 
   -- a bundle of the slot
-  module _ (sender seq : ℕ) (hs : sender < s .shared .n) (hk : seq < 16) (dated : s .shared .day < 2 ^ 32) (bundle out records : List ℕ) (r : Record)
-      (h : Header) (e : read (config s u) bundle ≡ done h) (es : h .sender ≡ sender) (ek : h .seq ≡ seq) (room : length out ≡ 32)
+  module _ (sender seq : ℕ) (hs : sender < s .shared .n) (hk : seq < slots) (dated : s .shared .day < 2 ^ 32) (bundle out records : List ℕ) (r : Record)
+      (h : Header) (e : read (config s u) bundle ≡ done h) (es : h .sender ≡ sender) (ek : h .seq ≡ seq) (room : length out ≡ size)
       (holds : Holds s sender seq u records r) where
     -- what the act comes to
     abbrev turned : Outcome Turn
@@ -435,7 +435,7 @@ module _ (s : System) (g : good (config s 0) ≡ true) (u : ℕ) (l : u < s .sha
           (subst (λ (a : ℕ). Bundled (s .shared .n) a (h .signers) (payload (config s u) bundle)) es (accepted-here .bundled))
           r turn (holds .sound) f
 
-      turn-length : length (image (turn .after)) ≡ 32
+      turn-length : length (image (turn .after)) ≡ recordSize
       turn-length = image-length (turn .after) (λ x. ap length (turn-payload .1) ∙ accepted-here .bundled .whole)
 
       turn-holds : Holds s sender seq u (stored (config s u) (headerOf bundle .sender) (headerOf bundle .seq) (image (turn .after)) records) (turn .after)
@@ -500,7 +500,7 @@ module _ (s : System) (g : good (config s 0) ≡ true) (u : ℕ) (l : u < s .sha
 -- ---- every call
 
 -- A call at a correct node that finds the slot so matches its act.
-pub matches : (s : System) (sender seq : ℕ) → sender < s .shared .n → seq < 16 → good (config s 0) ≡ true → s .shared .day < 2 ^ 32
+pub matches : (s : System) (sender seq : ℕ) → sender < s .shared .n → seq < slots → good (config s 0) ≡ true → s .shared .day < 2 ^ 32
     → (u : ℕ) → u < s .shared .n → (call : Call) (records : List ℕ) (r : Record) (m : Option Act)
     → Ready s sender seq u call records r → View s sender seq u records call m → Match s sender seq u call records r m
 matches s sender seq hs hk g dated u l call records r m ready opening = open-match s g u l sender seq records r hs hk (ready .0) (ready .1)
@@ -522,7 +522,7 @@ matches s sender seq hs hk g dated u l call records r m ready (handed-short bund
     go (refused number) f =
         refused-match s g u l sender seq bundle out records r number f
         (λ signers content b x. true≢false (sym (reached-read s g u l sender seq hs hk dated bundle out records signers content b x .2) ∙ short)) ready
-    go (done turn) f = absurd (eqb-false (length out) 32 short (receive-done (config s u) bundle records out h e turn f .0))
+    go (done turn) f = absurd (eqb-false (length out) size short (receive-done (config s u) bundle records out h e turn f .0))
 matches s sender seq hs hk g dated u l call records r m ready (handed-unread bundle out number e) =
     refused-match s g u l sender seq bundle out records r number (receive-unread (config s u) bundle records out number e)
     (λ signers content b x.

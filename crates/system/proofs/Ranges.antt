@@ -12,6 +12,7 @@ use Rattle.refusal.specs.Outcome.{Outcome, refused, done, after}
 use Rattle.refusal.proofs.Reasons.{refused-not-done}
 use Rattle.config.proofs.Laws.{good-says}
 use Rattle.bundle.specs.declared.Header.{Header}
+use Rattle.config.specs.Config.{slots}
 use Rattle.bundle.specs.Bundle.{bundleOf, dayOf, headerOf, read}
 use Rattle.protocol.specs.Slot as slot
 use Rattle.protocol.specs.Slot.{Turn, signersOf, payloadOf}
@@ -24,7 +25,7 @@ use Rattle.system.proofs.Matches.{slotHeader, bundleIn, answerTo, bundl
 
 -- the slot is a sender's, who is one of the nodes, and has one of the sixteen numbers
 abbrev pub InRange : System → ℕ → ℕ → Type 0
-InRange s sender seq = (sender < s .shared .n) × (seq < 16)
+InRange s sender seq = (sender < s .shared .n) × (seq < slots)
 
 -- a bundle in a slot names its sender and its number
 slot-names : (day sender seq : ℕ) (bundle : List ℕ) → inSlot day sender seq bundle ≡ true → (headerOf bundle .sender ≡ sender) × (headerOf bundle .seq ≡ seq)
@@ -34,17 +35,17 @@ slot-names day sender seq bundle e =
     let b = and-eq-true-iff (eqb (headerOf bundle .sender) sender) (eqb (headerOf bundle .seq) seq) .0 (a .1) in
     (eqb-true (headerOf bundle .sender) sender (b .0), eqb-true (headerOf bundle .seq) seq (b .1))
 
-in-range : (s : System) (sender seq a b : ℕ) → a < s .shared .n → b < 16 → a ≡ sender → b ≡ seq → InRange s sender seq
-in-range s sender seq a b la lb e f = (subst (λ (x : ℕ). x < s .shared .n) e la, subst (λ (x : ℕ). x < 16) f lb)
+in-range : (s : System) (sender seq a b : ℕ) → a < s .shared .n → b < slots → a ≡ sender → b ≡ seq → InRange s sender seq
+in-range s sender seq a b la lb e f = (subst (λ (x : ℕ). x < s .shared .n) e la, subst (λ (x : ℕ). x < slots) f lb)
 
 module _ (s : System) (u : ℕ) where
   -- a bundle that is taken names a slot in range
   taken-range : (bundle records out : List ℕ) (turn : Turn) → receive (config s u) bundle records out ≡ done turn
-      → (headerOf bundle .sender < s .shared .n) × (headerOf bundle .seq < 16)
+      → (headerOf bundle .sender < s .shared .n) × (headerOf bundle .seq < slots)
   unfolding config
   taken-range bundle records out turn f = go (read (config s u) bundle) refl
     where
-      go : (o : Outcome Header) → read (config s u) bundle ≡ o → (headerOf bundle .sender < s .shared .n) × (headerOf bundle .seq < 16)
+      go : (o : Outcome Header) → read (config s u) bundle ≡ o → (headerOf bundle .sender < s .shared .n) × (headerOf bundle .seq < slots)
       go (refused number) e = absurd (refused-not-done number turn (sym (receive-unread (config s u) bundle records out number e) ∙ f))
       go (done h) e =
           let accepted = read-says (config s u) bundle h e in
@@ -52,7 +53,7 @@ module _ (s : System) (u : ℕ) where
           (ap (λ (k : Header). k .sender) (sym (accepted .fields))) (ap (λ (k : Header). k .seq) (sym (accepted .fields)))
 
   -- so does an announcement
-  announced-range : (content records out : List ℕ) (k : ℕ) → broadcast (config s u) content records out ≡ done k → (u < s .shared .n) × (k < 16)
+  announced-range : (content records out : List ℕ) (k : ℕ) → broadcast (config s u) content records out ≡ done k → (u < s .shared .n) × (k < slots)
   unfolding config
   announced-range content records out k e =
       let d = broadcast-done (config s u) content records out k e in
@@ -87,7 +88,7 @@ module _ (s : System) (u : ℕ) where
     announces-range content same-node (Receive bundle out) records e = absurd (true≢false (sym e))
 
     -- a bundle put together for a slot in range
-    written-range : (h : Header) (content : List ℕ) → (h .sender < s .shared .n) × (h .seq < 16)
+    written-range : (h : Header) (content : List ℕ) → (h .sender < s .shared .n) × (h .seq < slots)
         → inSlot (s .shared .day) sender seq (bundleOf (s .shared .day) h content) ≡ true → InRange s sender seq
     written-range h content range x =
         let names = slot-names (s .shared .day) sender seq (bundleOf (s .shared .day) h content) x in

@@ -10,7 +10,7 @@ use lib.ListN.{length}
 use borrow.Author.Tests.{eqb-true}
 use Rattle.refusal.specs.Outcome.{Outcome, refused, done, after}
 use Rattle.bundle.specs.declared.Header.{Header}
-use Rattle.bundle.specs.Bundle.{read, payload}
+use Rattle.bundle.specs.Bundle.{size, read, payload}
 use Rattle.protocol.specs.OneSlot.{Act, announce, hand}
 use Rattle.calls.specs.Broadcast.{broadcast}
 use Rattle.system.specs.Demand3.{Call, Open, Broadcast, Receive, System, config}
@@ -28,7 +28,7 @@ module _ (s : System) (sender seq : ℕ) where
       after (broadcast (config s u) content records out) (λ k. chosen (eqb u sender && eqb k seq) (announce content)) none
   act u (Receive bundle out) records =
       after (read (config s u) bundle)
-      (λ h. chosen ((eqb (h .sender) sender && eqb (h .seq) seq) && eqb (length out) 32) (hand (h .signers) (payload (config s u) bundle)))
+      (λ h. chosen ((eqb (h .sender) sender && eqb (h .seq) seq) && eqb (length out) size) (hand (h .signers) (payload (config s u) bundle)))
       none
 
 -- the ways in which a call comes to its act, or to none
@@ -40,11 +40,11 @@ pub data View (s : System) (sender seq u : ℕ) (records : List ℕ) : Call → 
       → View s sender seq u records (Broadcast content out) none
   announced-not : (content out : List ℕ) (number : ℕ) → broadcast (config s u) content records out ≡ refused number
       → View s sender seq u records (Broadcast content out) none
-  handed-here : (bundle out : List ℕ) (h : Header) → read (config s u) bundle ≡ done h → h .sender ≡ sender → h .seq ≡ seq → length out ≡ 32
+  handed-here : (bundle out : List ℕ) (h : Header) → read (config s u) bundle ≡ done h → h .sender ≡ sender → h .seq ≡ seq → length out ≡ size
       → View s sender seq u records (Receive bundle out) (some (hand (h .signers) (payload (config s u) bundle)))
   handed-elsewhere : (bundle out : List ℕ) (h : Header) → read (config s u) bundle ≡ done h → (eqb (h .sender) sender && eqb (h .seq) seq) ≡ false
       → View s sender seq u records (Receive bundle out) none
-  handed-short : (bundle out : List ℕ) (h : Header) → read (config s u) bundle ≡ done h → eqb (length out) 32 ≡ false
+  handed-short : (bundle out : List ℕ) (h : Header) → read (config s u) bundle ≡ done h → eqb (length out) size ≡ false
       → View s sender seq u records (Receive bundle out) none
   handed-unread : (bundle out : List ℕ) (number : ℕ) → read (config s u) bundle ≡ refused number
       → View s sender seq u records (Receive bundle out) none
@@ -69,18 +69,18 @@ view s sender seq u records (Broadcast content out) = go (broadcast (config s u)
     go (done k) e = pick k e (eqb u sender && eqb k seq) refl
 view s sender seq u records (Receive bundle out) = go (read (config s u) bundle) refl
   where
-    pick : (h : Header) → read (config s u) bundle ≡ done h → (b c : Bool) → (eqb (h .sender) sender && eqb (h .seq) seq) ≡ b → eqb (length out) 32 ≡ c
+    pick : (h : Header) → read (config s u) bundle ≡ done h → (b c : Bool) → (eqb (h .sender) sender && eqb (h .seq) seq) ≡ b → eqb (length out) size ≡ c
         → View s sender seq u records (Receive bundle out) (chosen (b && c) (hand (h .signers) (payload (config s u) bundle)))
     pick h e true true f l =
         let both = and-eq-true-iff (eqb (h .sender) sender) (eqb (h .seq) seq) .0 f in
-        handed-here bundle out h e (eqb-true (h .sender) sender (both .0)) (eqb-true (h .seq) seq (both .1)) (eqb-true (length out) 32 l)
+        handed-here bundle out h e (eqb-true (h .sender) sender (both .0)) (eqb-true (h .seq) seq (both .1)) (eqb-true (length out) size l)
     pick h e true false f l = handed-short bundle out h e l
     pick h e false c f l = handed-elsewhere bundle out h e f
 
     go : (o : Outcome Header) → read (config s u) bundle ≡ o
         → View s sender seq u records (Receive bundle out)
         (after o
-        (λ h. chosen ((eqb (h .sender) sender && eqb (h .seq) seq) && eqb (length out) 32) (hand (h .signers) (payload (config s u) bundle)))
+        (λ h. chosen ((eqb (h .sender) sender && eqb (h .seq) seq) && eqb (length out) size) (hand (h .signers) (payload (config s u) bundle)))
         none)
     go (refused number) e = handed-unread bundle out number e
-    go (done h) e = pick h e (eqb (h .sender) sender && eqb (h .seq) seq) (eqb (length out) 32) refl refl
+    go (done h) e = pick h e (eqb (h .sender) sender && eqb (h .seq) seq) (eqb (length out) size) refl refl
