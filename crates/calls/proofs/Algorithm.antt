@@ -22,7 +22,7 @@ use Rattle.calls.specs.Open.{openRecords}
 use Rattle.calls.specs.Receive.{recordBundle, receive, receiveRecords, receiveOut}
 use Rattle.calls.specs.Algorithm.{kept, OpenStarts, BroadcastFollows, ReceiveFollows}
 use Rattle.calls.proofs.Records.{recordAt-length, stored-there, zeros-at}
-use Rattle.calls.proofs.Refusals.{opened-done, broadcast-effect, receive-left, receive-taken}
+use Rattle.calls.proofs.Refusals.{opened-done, broadcast-effect, receive-left, receive-updated}
 use Rattle.calls.proofs.Found.{broadcast-done}
 use Rattle.calls.proofs.Taking.{read-says}
 use Rattle.calls.proofs.Settled.{turn-sound}
@@ -62,9 +62,9 @@ broadcast-follows w content records out seq e =
 pub receive-follows : ReceiveFollows
 receive-follows w bundle records out h e o l sound =
     let ok = read-says w bundle h e in
-    let taken = receive-taken w bundle records out h e o l sound in (
+    let taken = receive-updated w bundle records out h e o l sound in (
       subst (algorithm.Follows (w .n) (w .t) (w .own) (h .sender) (h .signers) (payload w bundle) (kept w (h .sender) (h .seq) records)) (sym taken)
-          (values.take-follows (w .n) (w .t) (w .own) (h .sender) (quorum w) (h .signers) (payload w bundle) (kept w (h .sender) (h .seq) records)
+          (values.update-follows (w .n) (w .t) (w .own) (h .sender) (quorum w) (h .signers) (payload w bundle) (kept w (h .sender) (h .seq) records)
           (λ k. quorum-strict w k (ok .configured)) (ok .bundled .authentic)),
       λ turn f. (
         ap (kept w (h .sender) (h .seq)) (left turn f (ok .fields))

@@ -16,8 +16,8 @@ use Rattle.config.specs.Config.{good, quorum, place, slots, recordSize, records
 use Rattle.config.proofs.Laws.{good-says}
 use Rattle.bundle.specs.declared.Header.{Header}
 use Rattle.bundle.specs.Bundle.{size, payloadSize, headerOf, read, payload}
-use Rattle.protocol.specs.Slot.{Turn, announcedBy, take}
-use Rattle.protocol.proofs.Sound.{take-payload}
+use Rattle.protocol.specs.Slot.{Turn, announcedBy, update}
+use Rattle.protocol.proofs.Sound.{update-payload}
 use Rattle.record.specs.Record.{image, recordIn, wellFormed, payloadAt}
 use Rattle.record.proofs.Image.{image-length}
 use Rattle.calls.specs.Records.{recordAt, stored}
@@ -65,7 +65,7 @@ receive-changes w bundle records out = go (receive w bundle records out) refl (r
     go (done turn) e (done h) f =
         let ok = read-says w bundle h f in
         let (room, long, taken) = receive-done w bundle records out h f turn e in
-        let (some, same) = take-payload (w .own) (quorum w) (h .signers) (payload w bundle) (recordIn (recordAt w (h .sender) (h .seq) records)) turn taken in
+        let (some, same) = update-payload (w .own) (quorum w) (h .signers) (payload w bundle) (recordIn (recordAt w (h .sender) (h .seq) records)) turn taken in
         one-stored w records (image (turn .after)) (receiveRecords w bundle records out) (headerOf bundle .sender) (headerOf bundle .seq) (ok .configured) long
         (rw (ok .fields) (ok .sender-known)) (rw (ok .fields) (ok .slot)) (image-length (turn .after) (λ _. ap length same ∙ ok .bundled .whole))
         (receive-left w bundle records out turn e .0)
@@ -87,7 +87,7 @@ shape w bundle h room long bytes =
     ∷ (20 if not (eqb long (recordsSize w)))
     ∷ (21 if not (wellFormed w (h .sender) bytes))
     ∷ [])
-    and-then (λ _. take (w .own) (quorum w) (h .signers) (payload w bundle) (recordIn bytes))
+    and-then (λ _. update (w .own) (quorum w) (h .signers) (payload w bundle) (recordIn bytes))
 
 receive-shape : (w : Config) (bundle records out : List ℕ) (h : Header) → read w bundle ≡ done h
     → receive w bundle records out ≡ shape w bundle h (length out) (length records) (recordAt w (h .sender) (h .seq) records)

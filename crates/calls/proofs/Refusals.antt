@@ -12,7 +12,7 @@ use Rattle.config.specs.declared.Config.{Config}
 use Rattle.config.specs.Config.{good, slots, inRange, place, recordsSize, quorum}
 use Rattle.bundle.specs.declared.Header.{Header}
 use Rattle.bundle.specs.Bundle.{size, payloadSize, bundleOf, headerOf, read, payload}
-use Rattle.protocol.specs.Slot.{isDelivered, announcedBy, sends, Turn, take}
+use Rattle.protocol.specs.Slot.{isDelivered, announcedBy, sends, Turn, update}
 use Rattle.record.specs.Record.{image, recordIn, wellFormed, payloadAt}
 use Rattle.calls.specs.Records.{recordAt, stored}
 use Rattle.calls.specs.Open.{openReasons, opened}
@@ -115,7 +115,7 @@ module _ (w : Config) (bundle records out : List ℕ) where
 
   module _ (h : Header) (e : read w bundle ≡ done h) where
     abbrev taking : Outcome Unit → Outcome Turn
-    taking o = o and-then (λ _. take (w .own) (quorum w) (h .signers) (payload w bundle) (recordIn (recordAt w (h .sender) (h .seq) records)))
+    taking o = o and-then (λ _. update (w .own) (quorum w) (h .signers) (payload w bundle) (recordIn (recordAt w (h .sender) (h .seq) records)))
 
     -- what is left behind an accepted bundle
     rest : receive w bundle records out ≡ taking (checked (receiveReasons w bundle records out h))
@@ -138,11 +138,11 @@ module _ (w : Config) (bundle records out : List ℕ) where
             rest ∙ ap taking (pass 10 _ _ (passed (eq-eqb _ _ o)) ∙ pass 20 _ _ (passed (eq-eqb _ _ r)) ∙ stop 21 _ _ (failed f))
 
         -- the step decides
-        pub receive-taken : wellFormed w (h .sender) (recordAt w (h .sender) (h .seq) records) ≡ true
+        pub receive-updated : wellFormed w (h .sender) (recordAt w (h .sender) (h .seq) records) ≡ true
             → receive w bundle records out
-            ≡ take (w .own) (quorum w) (h .signers) (payload w bundle) (recordIn (recordAt w (h .sender) (h .seq) records))
+            ≡ update (w .own) (quorum w) (h .signers) (payload w bundle) (recordIn (recordAt w (h .sender) (h .seq) records))
         unfolding receiveReasons
-        receive-taken f =
+        receive-updated f =
             rest
             ∙ ap taking
             (clear-done (receiveReasons w bundle records out h) tt (passed (eq-eqb _ _ o), (passed (eq-eqb _ _ r), (passed f, tt))))

@@ -12,8 +12,8 @@ use Rattle.config.specs.Config.{quorum, recordsSize}
 use Rattle.config.proofs.Laws.{good-says}
 use Rattle.bundle.specs.declared.Header.{Header}
 use Rattle.bundle.specs.Bundle.{bundleOf, read, payload}
-use Rattle.protocol.specs.Slot.{Answer, signersOf, payloadOf, isEmpty, sends, Turn, take}
-use Rattle.protocol.proofs.Sound.{Sound, take-sound, take-payload}
+use Rattle.protocol.specs.Slot.{Answer, signersOf, payloadOf, isEmpty, sends, Turn, update}
+use Rattle.protocol.proofs.Sound.{Sound, update-sound, update-payload}
 use Rattle.record.specs.Record.{image, signersIn, payloadIn, recordIn, wellFormed, imaged}
 use Rattle.record.proofs.Image.{wellFormed-sound, image-fields}
 use Rattle.calls.specs.Records.{recordAt, stored}
@@ -25,7 +25,7 @@ use Rattle.calls.proofs.Taking.{read-says}
 module _ (w : Config) (bundle records out : List ℕ) (h : Header) (e : read w bundle ≡ done h) (l : length records ≡ recordsSize w)
     (sound : wellFormed w (h .sender) (recordAt w (h .sender) (h .seq) records) ≡ true)
     (taken : receive w bundle records out
-    ≡ take (w .own) (quorum w) (h .signers) (payload w bundle) (recordIn (recordAt w (h .sender) (h .seq) records))) where
+    ≡ update (w .own) (quorum w) (h .signers) (payload w bundle) (recordIn (recordAt w (h .sender) (h .seq) records))) where
   -- the record of a turn is sound, and not empty
   pub turn-sound : (turn : Turn) → receive w bundle records out ≡ done turn
       → (isEmpty (turn .after) ≡ false) × Sound (w .n) (h .sender) (quorum w) (w .own) (turn .after)
@@ -34,8 +34,8 @@ module _ (w : Config) (bundle records out : List ℕ) (h : Header) (e : read w b
       let g = good-says w (ok .configured) in
       let r = recordIn (recordAt w (h .sender) (h .seq) records) in
       let long = recordAt-length w (ok .configured) records l (h .sender) (h .seq) (ok .sender-known) (ok .slot) in (
-        take-payload (w .own) (quorum w) (h .signers) (payload w bundle) r turn (sym taken ∙ o) .0,
-        take-sound (w .n) (h .sender) (quorum w) (w .own) (h .signers) (payload w bundle) (g .known) (g .most) (ok .bundled) r turn
+        update-payload (w .own) (quorum w) (h .signers) (payload w bundle) r turn (sym taken ∙ o) .0,
+        update-sound (w .n) (h .sender) (quorum w) (w .own) (h .signers) (payload w bundle) (g .known) (g .most) (ok .bundled) r turn
             (wellFormed-sound w (h .sender) (recordAt w (h .sender) (h .seq) records) long sound) (sym taken ∙ o),
       )
 

@@ -17,7 +17,7 @@ use Rattle.config.specs.Config.{good, quorum, slots, recordsSize}
 use Rattle.bundle.specs.declared.Header.{Header}
 use Rattle.bundle.specs.Bundle.{size, payloadStart, payloadSize, dayOf, headerOf, headerReasons, read, payload}
 use Rattle.bundle.proofs.Accepted.{accepted-readable, accepted-payload}
-use Rattle.protocol.specs.Slot.{Record, Turn, take}
+use Rattle.protocol.specs.Slot.{Record, Turn, update}
 use Rattle.protocol.proofs.Sound.{Bundled}
 use Rattle.record.specs.Record.{image, recordIn, wellFormed}
 use Rattle.calls.specs.Records.{recordAt}
@@ -69,32 +69,32 @@ module _ (w : Config) (bundle records out : List ℕ) where
   module _ (h : Header) (e : read w bundle ≡ done h) where
     -- past the checks, the record is taken
     receive-checked : checked (receiveReasons w bundle records out h) ≡ done tt
-        → receive w bundle records out ≡ take (w .own) (quorum w) (h .signers) (payload w bundle) (recordIn (recordAt w (h .sender) (h .seq) records))
+        → receive w bundle records out ≡ update (w .own) (quorum w) (h .signers) (payload w bundle) (recordIn (recordAt w (h .sender) (h .seq) records))
     unfolding receive
     receive-checked c = rw (e, c)
 
     -- a sound record is taken as the step says
-    pub receive-takes : (r : Record) → length out ≡ size → length records ≡ recordsSize w → recordAt w (h .sender) (h .seq) records ≡ image r
+    pub receive-updates : (r : Record) → length out ≡ size → length records ≡ recordsSize w → recordAt w (h .sender) (h .seq) records ≡ image r
         → wellFormed w (h .sender) (image r) ≡ true → recordIn (image r) ≡ r
-        → receive w bundle records out ≡ take (w .own) (quorum w) (h .signers) (payload w bundle) r
+        → receive w bundle records out ≡ update (w .own) (quorum w) (h .signers) (payload w bundle) r
     unfolding receiveReasons
-    receive-takes r room size held sound back =
+    receive-updates r room size held sound back =
         receive-checked
         (clear-done (receiveReasons w bundle records out h) tt
         (ap not (eq-eqb _ _ room), (ap not (eq-eqb _ _ size), (ap not (ap (wellFormed w (h .sender)) held ∙ sound), tt))))
-        ∙ ap (take (w .own) (quorum w) (h .signers) (payload w bundle)) (ap recordIn held ∙ back)
+        ∙ ap (update (w .own) (quorum w) (h .signers) (payload w bundle)) (ap recordIn held ∙ back)
 
     -- a bundle that is taken found 32 outgoing bytes, a buffer of the right size, and some record
     pub receive-done : (turn : Turn) → receive w bundle records out ≡ done turn
         → (length out ≡ size) × (length records ≡ recordsSize w)
-        × (take (w .own) (quorum w) (h .signers) (payload w bundle) (recordIn (recordAt w (h .sender) (h .seq) records)) ≡ done turn)
+        × (update (w .own) (quorum w) (h .signers) (payload w bundle) (recordIn (recordAt w (h .sender) (h .seq) records)) ≡ done turn)
     unfolding receive
     receive-done turn f = go (checked (receiveReasons w bundle records out h)) refl (rw e at f)
       where
         go : (o : Outcome Unit) → checked (receiveReasons w bundle records out h) ≡ o
-            → (o and-then λ _. take (w .own) (quorum w) (h .signers) (payload w bundle) (recordIn (recordAt w (h .sender) (h .seq) records))) ≡ done turn
+            → (o and-then λ _. update (w .own) (quorum w) (h .signers) (payload w bundle) (recordIn (recordAt w (h .sender) (h .seq) records))) ≡ done turn
             → (length out ≡ size) × (length records ≡ recordsSize w)
-            × (take (w .own) (quorum w) (h .signers) (payload w bundle) (recordIn (recordAt w (h .sender) (h .seq) records)) ≡ done turn)
+            × (update (w .own) (quorum w) (h .signers) (payload w bundle) (recordIn (recordAt w (h .sender) (h .seq) records)) ≡ done turn)
         go (refused number) c t = absurd (refused-not-done number turn t)
         go (done first) c t =
             let k = lengths w bundle records out h (done-clear (receiveReasons w bundle records out h) tt first c .0) in (k .0, k .1, t)

@@ -13,7 +13,7 @@ use Rattle.config.specs.declared.Config.{Config}
 use Rattle.config.specs.Config.{quorum}
 use Rattle.bundle.specs.declared.Header.{Header}
 use Rattle.bundle.specs.Bundle.{size, bundleOf, headerOf, read, payload}
-use Rattle.protocol.specs.Slot.{Record, signersOf, payloadOf, Answer, kept, signed, delivered, sends, Turn, take}
+use Rattle.protocol.specs.Slot.{Record, signersOf, payloadOf, Answer, kept, signed, delivered, sends, Turn, update}
 use Rattle.record.specs.Record.{image, recordIn, wellFormed}
 use Rattle.calls.specs.Records.{recordAt, stored, wrongSize}
 use Rattle.calls.specs.declared.Receipt.{Receipt}
@@ -36,7 +36,7 @@ module _ (w : Config) (bundle records out : List ℕ) where
   receive =
       read w bundle and-then λ h.
       checked (receiveReasons h) and-then λ _.
-      take (w .own) (quorum w) (h .signers) (payload w bundle) (recordIn (recordAt w (h .sender) (h .seq) records))
+      update (w .own) (quorum w) (h .signers) (payload w bundle) (recordIn (recordAt w (h .sender) (h .seq) records))
 
   unfoldable pub receiveRecords : List ℕ
   receiveRecords = after receive (λ turn. stored w (headerOf bundle .sender) (headerOf bundle .seq) (image (turn .after)) records) records

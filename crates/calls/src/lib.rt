@@ -138,7 +138,7 @@ pub fn receive(config: Config, bundle: &[u8], records: &mut [u8], out: &mut [u8]
     }
     let high = octets::word(&bundle[16..24]);
     let low = octets::word(&bundle[24..32]);
-    let step = record.take(config, header.signers, high, low);
+    let step = record.update(config, header.signers, high, low);
     settle(config, header, step, records, out)
 }
 

@@ -14,8 +14,8 @@ use Rattle.octets.proofs.Same.{same-says, same-self, same-flip}
 use Rattle.signers.specs.Signers.{member, insert, union, size}
 use Rattle.signers.proofs.Members.{nobody}
 use Rattle.refusal.specs.Outcome.{unless}
-use Rattle.protocol.specs.Slot.{Record, Empty, Held, Delivered, payloadOf, isEmpty, Turn, kept, signed, delivered, announcedBy, takeReasons, gathered, taken, take}
-use Rattle.protocol.specs.Algorithm.{State, Run, save, sign, bundleEffect, onBroadcast, line9, line5, andLine9, onBundle, keepOne, sendOnce, stateOf, effectsOf, SameState, BroadcastFollows, Follows, TakeFollows}
+use Rattle.protocol.specs.Slot.{Record, Empty, Held, Delivered, payloadOf, isEmpty, Turn, kept, signed, delivered, announcedBy, updateReasons, gathered, updated, update}
+use Rattle.protocol.specs.Algorithm.{State, Run, save, sign, bundleEffect, onBroadcast, line9, line5, andLine9, onBundle, keepOne, sendOnce, stateOf, effectsOf, SameState, BroadcastFollows, Follows, UpdateFollows}
 
 -- ---- words and messages
 
@@ -53,8 +53,8 @@ module _ (n t own sender q sigs : ℕ) (m : List ℕ) (r : Record) (quorum : (k 
   -- Where lines 4 to 8 save for the message what the record gathers, and send a bundle if the record was empty, taking follows: line 9 delivers
   -- where taking does.
   gathers : (σ : State) → σ .saved m ≡ gathered own q sigs m r → σ .hasSigned ≡ true → σ .hasDelivered ≡ false
-      → Alike (taken own q sigs m r) (andLine9 n t own sender m (record { state = σ; effects = cond (isEmpty r) (bundleEffect m σ ∷ []) [] }))
-  unfolding taken andLine9 line9 bundleEffect stateOf keepOne effectsOf sendOnce
+      → Alike (updated own q sigs m r) (andLine9 n t own sender m (record { state = σ; effects = cond (isEmpty r) (bundleEffect m σ ∷ []) [] }))
+  unfolding updated andLine9 line9 bundleEffect stateOf keepOne effectsOf sendOnce
   gathers σ e made waits = go (leb q (size word)) (isEmpty r) (rw e (sym (quorum (size word))))
     where
       word : ℕ
@@ -79,16 +79,16 @@ module _ (n t own sender q sigs : ℕ) (m : List ℕ) (r : Record) (quorum : (k 
   too-few σ e f = rw (e, ← (quorum (size sigs)), lt-leb q (size sigs) (ltb-true (size sigs) q f))
 
 -- Empty: 23, or lines 4 to 12. Held: this message, and lines 4 and 9 to 12; or another, and 23, 24, or a full quorum at once. Delivered: 22.
-pub take-follows : TakeFollows
-unfolding take takeReasons unless gathered onBundle line5 andLine9 save sign stateOf keepOne bundleEffect
-take-follows n t own sender q sigs m Empty quorum present = go (member sigs own) refl
+pub update-follows : UpdateFollows
+unfolding update updateReasons unless gathered onBundle line5 andLine9 save sign stateOf keepOne bundleEffect
+update-follows n t own sender q sigs m Empty quorum present = go (member sigs own) refl
   where
-    go : (ours : Bool) → member sigs own ≡ ours → Follows n t own sender sigs m Empty (take own q sigs m Empty)
+    go : (ours : Bool) → member sigs own ≡ ours → Follows n t own sender sigs m Empty (update own q sigs m Empty)
     go true e = rw e (inr (inl (refl, e, nobody own)))
     go false e =
         let saved = sign own m (save m sigs (stateOf Empty)) in
         rw (e, present) (gathers n t own sender q sigs m Empty quorum saved (rw (same-self m) (one-joined sigs own)) refl refl)
-take-follows n t own sender q sigs m (Held s p) quorum present = go (same p m) refl (member sigs own) refl (ltb (size sigs) q) refl
+update-follows n t own sender q sigs m (Held s p) quorum present = go (same p m) refl (member sigs own) refl (ltb (size sigs) q) refl
   where
     saved : State
     saved = save m sigs (stateOf (Held s p))
@@ -99,7 +99,7 @@ take-follows n t own sender q sigs m (Held s p) quorum present = go (same p m) r
     dropped h x false k = rw k
 
     go : (held : Bool) → same p m ≡ held → (ours : Bool) → member sigs own ≡ ours → (few : Bool) → ltb (size sigs) q ≡ few
-        → Follows n t own sender sigs m (Held s p) (take own q sigs m (Held s p))
+        → Follows n t own sender sigs m (Held s p) (update own q sigs m (Held s p))
     go true h ours e few f =
         rw (h, and-false (member sigs own), present) (gathers n t own sender q sigs m (Held s p) quorum saved (rw (same-self m, h)) refl refl)
     go false h true e few f = rw (h, e) (inr (inl (refl, e, rw h (nobody own))))
@@ -109,5 +109,5 @@ take-follows n t own sender q sigs m (Held s p) quorum present = go (same p m) r
         rw (h, e, f, present, quiet) (inr (inr (refl, rw h, back, refl)))
     go false h false e false f =
         rw (h, e, f, present) (gathers n t own sender q sigs m (Held s p) quorum saved (rw (same-self m, h)) refl refl)
-take-follows n t own sender q sigs m (Delivered s p) quorum present =
+update-follows n t own sender q sigs m (Delivered s p) quorum present =
     inl (refl, refl, record { alike = λ x. refl; signed-alike = refl; delivered-alike = refl }, refl)

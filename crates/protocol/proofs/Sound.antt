@@ -15,7 +15,7 @@ use Rattle.signers.specs.Signers.{member, within, insert, union, size}
 use Rattle.signers.proofs.Members.{insert-own, member-union, member-insert, within-union, within-insert, lt-within}
 use Rattle.refusal.specs.Outcome.{done}
 use Rattle.refusal.proofs.Reasons.{Clear, done-clear}
-use Rattle.protocol.specs.Slot.{Record, Empty, Held, Delivered, signersOf, payloadOf, isEmpty, Turn, announcedBy, takeReasons, gathered, taken, take}
+use Rattle.protocol.specs.Slot.{Record, Empty, Held, Delivered, signersOf, payloadOf, isEmpty, Turn, announcedBy, updateReasons, gathered, updated, update}
 
 -- what a bundle in this slot has: only known signers, the sender's signature, a payload of 16 bytes
 pub record Bundled (n sender signers : ℕ) (payload : List ℕ) : Type 0 where
@@ -49,16 +49,16 @@ abbrev settled : ℕ → ℕ → List ℕ → Record
 settled q signers payload = cond (leb q (size signers)) (Delivered signers payload) (Held signers payload)
 
 -- what is left of a turn that is done: no reason applied, and it is the turn of the step
-pub take-done : (own q signers : ℕ) (payload : List ℕ) (r : Record) (turn : Turn) → take own q signers payload r ≡ done turn
-    → Clear (takeReasons own q signers payload r) × (taken own q signers payload r ≡ turn)
-unfolding take
-take-done own q signers payload r turn e = done-clear (takeReasons own q signers payload r) (taken own q signers payload r) turn e
+pub update-done : (own q signers : ℕ) (payload : List ℕ) (r : Record) (turn : Turn) → update own q signers payload r ≡ done turn
+    → Clear (updateReasons own q signers payload r) × (updated own q signers payload r ≡ turn)
+unfolding update
+update-done own q signers payload r turn e = done-clear (updateReasons own q signers payload r) (updated own q signers payload r) turn e
 
 -- the record afterwards is delivered or held by the number of signers gathered
-pub taken-after : (own q signers : ℕ) (payload : List ℕ) (r : Record)
-    → taken own q signers payload r .after ≡ settled q (gathered own q signers payload r) payload
-unfolding taken
-taken-after own q signers payload r = go (leb q (size (gathered own q signers payload r))) _ _
+pub updated-after : (own q signers : ℕ) (payload : List ℕ) (r : Record)
+    → updated own q signers payload r .after ≡ settled q (gathered own q signers payload r) payload
+unfolding updated
+updated-after own q signers payload r = go (leb q (size (gathered own q signers payload r))) _ _
   where
     go : (b : Bool) (x y : Turn) → cond b x y .after ≡ cond b (x .after) (y .after)
     go true x y = refl
@@ -74,11 +74,11 @@ settled-payload q signers payload = go (leb q (size signers))
     go true = (refl, refl)
     go false = (refl, refl)
 
-pub take-payload : (own q signers : ℕ) (payload : List ℕ) (r : Record) (turn : Turn) → take own q signers payload r ≡ done turn
+pub update-payload : (own q signers : ℕ) (payload : List ℕ) (r : Record) (turn : Turn) → update own q signers payload r ≡ done turn
     → (isEmpty (turn .after) ≡ false) × (payloadOf (turn .after) ≡ payload)
-take-payload own q signers payload r turn e =
+update-payload own q signers payload r turn e =
     let same : turn .after ≡ settled q (gathered own q signers payload r) payload =
-    sym (ap (λ (x : Turn). x .after) (take-done own q signers payload r turn e .1)) ∙ taken-after own q signers payload r in
+    sym (ap (λ (x : Turn). x .after) (update-done own q signers payload r turn e .1)) ∙ updated-after own q signers payload r in
     rw same (settled-payload q (gathered own q signers payload r) payload)
 
 -- a record below the quorum needs the node's own signature
@@ -91,9 +91,9 @@ settled-sound n sender q own signers payload bundled below = go (leb q (size sig
     go false e = (bundled, below (leb-false q (size signers) e))
 
 module _ (n sender q own signers : ℕ) (payload : List ℕ) (l : own < n) (most : n ≤ 64) (bundled : Bundled n sender signers payload) where
-  gathered-sound : (r : Record) → Sound n sender q own r → Clear (takeReasons own q signers payload r)
+  gathered-sound : (r : Record) → Sound n sender q own r → Clear (updateReasons own q signers payload r)
       → Sound n sender q own (settled q (gathered own q signers payload r) payload)
-  unfolding takeReasons gathered
+  unfolding updateReasons gathered
   gathered-sound Empty h clear =
       let fits : own < 64 = omega arith in
       settled-sound n sender q own (insert signers own) payload
@@ -121,7 +121,7 @@ module _ (n sender q own signers : ℕ) (payload : List ℕ) (l : own < n) (most
   gathered-sound (Delivered first held) h clear = absurd (true≢false (clear .0))
 
   -- taking keeps a record sound
-  pub take-sound : (r : Record) (turn : Turn) → Sound n sender q own r → take own q signers payload r ≡ done turn → Sound n sender q own (turn .after)
-  take-sound r turn h e =
-      let (clear, same) = take-done own q signers payload r turn e in
-      subst (Sound n sender q own) (sym (taken-after own q signers payload r) ∙ ap (λ (x : Turn). x .after) same) (gathered-sound r h clear)
+  pub update-sound : (r : Record) (turn : Turn) → Sound n sender q own r → update own q signers payload r ≡ done turn → Sound n sender q own (turn .after)
+  update-sound r turn h e =
+      let (clear, same) = update-done own q signers payload r turn e in
+      subst (Sound n sender q own) (sym (updated-after own q signers payload r) ∙ ap (λ (x : Turn). x .after) same) (gathered-sound r h clear)

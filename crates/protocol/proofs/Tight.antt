@@ -14,7 +14,7 @@ use Rattle.octets.specs.Octets.{same}
 use Rattle.signers.specs.Sets.{count}
 use Rattle.signers.specs.Signers.{member, insert, within}
 use Rattle.refusal.specs.Outcome.{unless}
-use Rattle.protocol.specs.Slot.{announcedBy, takeReasons, gathered, taken, take}
+use Rattle.protocol.specs.Slot.{announcedBy, updateReasons, gathered, updated, update}
 use Rattle.protocol.specs.Trace.{Trace, start, _then_calls_, each, state, ever}
 use Rattle.protocol.specs.OneSlot.{Act, announce, hand, play, next, signing, delivering, deliveringThis, announcing, handed, some}
 use Rattle.protocol.specs.Tight.{only, QuorumTight, ReachTight}
@@ -41,7 +41,7 @@ split =
 
 -- 0 and 1 deliver the first payload, 2 and 3 the second
 pub quorum-tight : QuorumTight
-unfolding split lawful-test allowed-test each ever state count play next take takeReasons unless gathered taken
+unfolding split lawful-test allowed-test each ever state count play next update updateReasons unless gathered updated
     member insert within ones signing deliveringThis same
 quorum-tight = (
   split,
@@ -72,8 +72,8 @@ missed =
 
 -- nobody has more than two of the three signers needed
 pub reach-tight : ReachTight
-unfolding missed lawful-test allowed-test nearly-test sent-test reached-from reached-test each ever state count play next announcedBy take takeReasons
-    unless gathered taken member insert within ones signing delivering deliveringThis announcing handed same
+unfolding missed lawful-test allowed-test nearly-test sent-test reached-from reached-test each ever state count play next announcedBy update updateReasons
+    unless gathered updated member insert within ones signing delivering deliveringThis announcing handed same
 reach-tight = (
   missed,
   record { fits = lit≤ tt; intersects = lit< tt; reachable = lit≤ tt },

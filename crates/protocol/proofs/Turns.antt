@@ -11,7 +11,7 @@ use Rattle.octets.specs.Octets.{same}
 use Rattle.octets.proofs.Same.{same-says, same-not}
 use Rattle.signers.specs.Signers.{member, insert, union, size}
 use Rattle.refusal.specs.Outcome.{Outcome, refused, done, unless}
-use Rattle.protocol.specs.Slot.{Record, Empty, Held, Delivered, holds, Turn, announced, kept, signed, delivered, announcedBy, takeReasons, gathered, taken, take}
+use Rattle.protocol.specs.Slot.{Record, Empty, Held, Delivered, holds, Turn, announced, kept, signed, delivered, announcedBy, updateReasons, gathered, updated, update}
 use Rattle.protocol.specs.OneSlot.{Act, announce, hand, play}
 
 -- why a node refuses: it announces, and its record is not empty; the record is delivered; the bundle has the node's signature on a payload that
@@ -42,7 +42,7 @@ pub data Turned (q own caller : ℕ) : Act → Record → Outcome Turn → Type 
 
 -- every act at the caller is one of these turns
 pub turned : (q own : ℕ) (act : Act) (r : Record) → Turned q own own act r (play q own act r)
-unfolding play take takeReasons taken gathered unless announcedBy
+unfolding play update updateReasons updated gathered unless announcedBy
 turned q own (announce payload) Empty = announces refl
 turned q own (announce payload) (Held old body) = refuses (λ e. busy)
 turned q own (announce payload) (Delivered old body) = refuses (λ e. busy)

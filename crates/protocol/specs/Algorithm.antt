@@ -11,7 +11,7 @@ use lib.Dec.{leb, ltb, eqb}
 use Rattle.octets.specs.Octets.{same}
 use Rattle.signers.specs.Signers.{member, insert, union, size}
 use Rattle.refusal.specs.Outcome.{Outcome, refused, done}
-use Rattle.protocol.specs.Slot.{Record, Empty, signersOf, payloadOf, isEmpty, isDelivered, holds, holdsOther, Turn, sends, delivers, announcedBy, take}
+use Rattle.protocol.specs.Slot.{Record, Empty, signersOf, payloadOf, isEmpty, isDelivered, holds, holdsOther, Turn, sends, delivers, announcedBy, update}
 
 -- ---- the paper's algorithm
 
@@ -134,8 +134,8 @@ module _ (n t own sender : ℕ) (sigs : ℕ) (m : List ℕ) (r : Record) where
       ⊎ ((number ≡ 24) × (holdsOther r m ≡ true) × SameState (keepOne (payloadOf r) (run .state)) (stateOf r) × (run .effects ≡ []))
 
 -- Taking follows the algorithm, for the paper's quorum and a bundle that has its sender's signature (reading refuses any other: 8).
-abbrev pub TakeFollows : Type 0
-TakeFollows =
+abbrev pub UpdateFollows : Type 0
+UpdateFollows =
     (n t own sender q sigs : ℕ) (m : List ℕ) (r : Record)
     → ((k : ℕ) → leb q k ≡ ltb (n + t) (k + k)) → member sigs sender ≡ true
-    → Follows n t own sender sigs m r (take own q sigs m r)
+    → Follows n t own sender sigs m r (update own q sigs m r)

@@ -12,7 +12,7 @@ use Rattle.octets.specs.Octets.{same}
 use Rattle.signers.specs.Sets.{NodeSet, count, both}
 use Rattle.signers.specs.Signers.{member, within}
 use Rattle.refusal.specs.Outcome.{Outcome, _if_, unless, after}
-use Rattle.protocol.specs.Slot.{Record, Empty, signersOf, payloadOf, isEmpty, Turn, announced, sends, delivers, announcedBy, take}
+use Rattle.protocol.specs.Slot.{Record, Empty, signersOf, payloadOf, isEmpty, Turn, announced, sends, delivers, announcedBy, update}
 use Rattle.protocol.specs.Trace.{Trace, start, _then_calls_, state, ever, times}
 
 -- what concerns a slot at a node: the node announces in it, or is handed a bundle with these signers and this payload
@@ -24,7 +24,7 @@ module _ (q : ℕ) where
   -- announcing takes an empty record, and a bundle is taken as document 01 says
   unfoldable pub play : ℕ → Act → Record → Outcome Turn
   play own (announce payload) r = unless ((25 if not (isEmpty r)) ∷ []) (record { answer = announced; after = announcedBy own payload })
-  play own (hand signers payload) r = take own q signers payload r
+  play own (hand signers payload) r = update own q signers payload r
 
   unfoldable pub next : ℕ → Act → Record → Record
   next own act r = after (play own act r) (λ turn. turn .after) r

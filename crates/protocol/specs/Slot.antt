@@ -77,8 +77,8 @@ module _ (own q : ℕ) (signers : ℕ) (payload : List ℕ) (r : Record) where
   -- 22 slot delivered already,
   -- 23 our bit is set in the bundle, yet our record does not hold its body,
   -- 24 another body held, and fewer than q signers in the bundle
-  unfoldable pub takeReasons : List Reason
-  takeReasons =
+  unfoldable pub updateReasons : List Reason
+  updateReasons =
       (22 if isDelivered r)
       ∷ (23 if member signers own && not (holds r payload))
       ∷ (24 if holdsOther r payload && ltb (size signers) q)
@@ -91,12 +91,12 @@ module _ (own q : ℕ) (signers : ℕ) (payload : List ℕ) (r : Record) where
   gathered = cond (isEmpty r) (insert signers own) (cond (holds r payload) (union (signersOf r) signers) signers)
 
   -- 4. "With q or more signers in the record its state becomes delivered."
-  unfoldable pub taken : Turn
-  taken =
+  unfoldable pub updated : Turn
+  updated =
       cond (leb q (size gathered))
       (record { answer = delivered; after = Delivered gathered payload })
       (record { answer = cond (isEmpty r) signed kept; after = Held gathered payload })
 
   -- taking a bundle that reading accepts, with these signers and this payload
-  unfoldable pub take : Outcome Turn
-  take = unless takeReasons taken
+  unfoldable pub update : Outcome Turn
+  update = unless updateReasons updated

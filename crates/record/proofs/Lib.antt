@@ -1,4 +1,4 @@
 -- Laws of the record that belong to no one function.
 pub mod Words
-pub mod Taken
+pub mod Updated
 pub mod Image

@@ -11,7 +11,7 @@ ghost use lib.Dec.{eqb};
 ghost use lib.ListN.{length};
 ghost use Rattle.octets.specs.Octets.{bytesOf, blank, same};
 ghost use Rattle.config.specs.Config.{quorum, recordSize};
-ghost use Rattle.protocol.specs.Slot.{take as takeOf, Empty, Held, isDelivered};
+ghost use Rattle.protocol.specs.Slot.{update as updateOf, Empty, Held, isDelivered};
 ghost use Rattle.record.specs.Record.{bytes as bytesIn, loaded, wellFormed, recordIn, stepOf, imaged};
 
 // The first word of a record: its state in the highest byte, the others zero.
@@ -110,8 +110,8 @@ impl Record {
     }
 
     // What a bundle with these signers and this payload, given as two words, does to the record.
-    pub fn take(self, config: Config, signers: u64, high: u64, low: u64) -> Step
-        ensures { λ r. ⌜ stepOf r ≡ imaged (takeOf (config .own) (quorum config) signers (bytesOf 8 high ++ bytesOf 8 low) (recordIn (bytesIn self))) ⌝ }
+    pub fn update(self, config: Config, signers: u64, high: u64, low: u64) -> Step
+        ensures { λ r. ⌜ stepOf r ≡ imaged (updateOf (config .own) (quorum config) signers (bytesOf 8 high ++ bytesOf 8 low) (recordIn (bytesIn self))) ⌝ }
     {
         let state = self.head / HELD;
         if 1 < state {
@@ -141,7 +141,7 @@ impl Record {
 
 // A bundle on an empty record: we sign.
 fn sign(config: Config, signers: u64, high: u64, low: u64) -> Step
-    ensures { λ r. ⌜ stepOf r ≡ imaged (takeOf (config .own) (quorum config) signers (bytesOf 8 high ++ bytesOf 8 low) Empty) ⌝ }
+    ensures { λ r. ⌜ stepOf r ≡ imaged (updateOf (config .own) (quorum config) signers (bytesOf 8 high ++ bytesOf 8 low) Empty) ⌝ }
 {
     if signers::member(signers, config.own) {
         return Step::Refused(Refusal::OwnSignatureUnknown);
@@ -165,7 +165,7 @@ fn sign(config: Config, signers: u64, high: u64, low: u64) -> Step
 
 // A bundle with the payload that is held, and so far signed by `known`: the signers join.
 fn join(config: Config, known: u64, signers: u64, high: u64, low: u64) -> Step
-    ensures { λ r. ⌜ stepOf r ≡ imaged (takeOf (config .own) (quorum config) signers (bytesOf 8 high ++ bytesOf 8 low) (Held known (bytesOf 8 high ++ bytesOf 8 low))) ⌝ }
+    ensures { λ r. ⌜ stepOf r ≡ imaged (updateOf (config .own) (quorum config) signers (bytesOf 8 high ++ bytesOf 8 low) (Held known (bytesOf 8 high ++ bytesOf 8 low))) ⌝ }
 {
     let signers = signers::union(known, signers);
     if config.quorum() <= signers::size(signers) {
@@ -187,7 +187,7 @@ fn join(config: Config, known: u64, signers: u64, high: u64, low: u64) -> Step
 // A bundle with another payload than the one held: only a full quorum replaces it.
 fn replace(config: Config, held: Record, signers: u64, high: u64, low: u64) -> Step
     requires { ⌜ same (bytesOf 8 (held .high) ++ bytesOf 8 (held .low)) (bytesOf 8 high ++ bytesOf 8 low) ≡ false ⌝ }
-    ensures { λ r. ⌜ stepOf r ≡ imaged (takeOf (config .own) (quorum config) signers (bytesOf 8 high ++ bytesOf 8 low) (Held (held .signers) (bytesOf 8 (held .high) ++ bytesOf 8 (held .low)))) ⌝ }
+    ensures { λ r. ⌜ stepOf r ≡ imaged (updateOf (config .own) (quorum config) signers (bytesOf 8 high ++ bytesOf 8 low) (Held (held .signers) (bytesOf 8 (held .high) ++ bytesOf 8 (held .low)))) ⌝ }
 {
     if signers::member(signers, config.own) {
         return Step::Refused(Refusal::OwnSignatureUnknown);

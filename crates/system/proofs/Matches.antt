@@ -20,9 +20,9 @@ use Rattle.config.proofs.Laws.{good-says, says-good}
 use Rattle.bundle.specs.declared.Header.{Header}
 use Rattle.bundle.specs.Bundle.{size, payloadSize, bundleOf, dayOf, headerOf, read, payload}
 use Rattle.protocol.specs.Slot as slot
-use Rattle.protocol.specs.Slot.{Record, Empty, Turn, signersOf, payloadOf, isEmpty, announced, announcedBy, take}
+use Rattle.protocol.specs.Slot.{Record, Empty, Turn, signersOf, payloadOf, isEmpty, announced, announcedBy, update}
 use Rattle.protocol.specs.OneSlot.{Act, announce, hand, play, next, delivering, deliveringThis, sending, announcing, handed}
-use Rattle.protocol.proofs.Sound.{Bundled, Sound, sound-bundled, announced-sound, take-payload, take-sound}
+use Rattle.protocol.proofs.Sound.{Bundled, Sound, sound-bundled, announced-sound, update-payload, update-sound}
 use Rattle.record.specs.Record.{image, wellFormed}
 use Rattle.record.proofs.Image.{image-length, blank-image, image-wellFormed, recordIn-image}
 use Rattle.calls.specs.Records.{recordAt, stored}
@@ -31,7 +31,7 @@ use Rattle.calls.specs.Broadcast.{broadcast, broadcastRecords, broadcastOut}
 use Rattle.calls.specs.Receive.{recordBundle, receive, receiveRecords, receiveOut}
 use Rattle.calls.proofs.Records.{stored-length, stored-there, stored-elsewhere, zeros-at}
 use Rattle.calls.proofs.Found.{Announced, broadcast-done}
-use Rattle.calls.proofs.Taking.{Read, read-says, receive-unread, receive-takes, receive-done}
+use Rattle.calls.proofs.Taking.{Read, read-says, receive-unread, receive-updates, receive-done}
 use Rattle.calls.proofs.Sent.{sent-reads}
 use Rattle.system.specs.Demand3.{Call, Open, Broadcast, Receive, System, config, inSlot, payloadIn, recordsAfter, outAfter, announces, deliversIn, delivers, sends, sendsIn, reaches}
 use Rattle.system.proofs.Views.{View, opening, announced-here, announced-elsewhere, announced-not, handed-here, handed-elsewhere, handed-short, handed-unread}
@@ -373,7 +373,7 @@ module _ (s : System) (g : good (config s 0) ≡ true) (u : ℕ) (l : u < s .sha
         sent false = refl
 
         content : payloadOf (turn .after) ≡ payload (config s u) bundle
-        content = take-payload _ _ _ _ _ turn (receive-done (config s u) bundle records out h e turn f .2) .1
+        content = update-payload _ _ _ _ _ turn (receive-done (config s u) bundle records out h e turn f .2) .1
 
         long : length (image (turn .after)) ≡ recordSize
         long = image-length (turn .after) (λ x. ap length content ∙ accepted .bundled .whole)
@@ -398,11 +398,11 @@ module _ (s : System) (g : good (config s 0) ≡ true) (u : ℕ) (l : u < s .sha
     unfolding config play
     receive-here =
         let sound = subst (λ (q : ℕ). Sound (s .shared .n) sender q u r) (sym (config-quorum s u g l)) (holds .sound) in
-        receive-takes (config s u) bundle records out h e r room (holds .sized)
+        receive-updates (config s u) bundle records out h e r room (holds .sized)
         (ap₂ (λ (a b : ℕ). recordAt (config s u) a b records) es ek ∙ holds .held)
         (ap (λ (a : ℕ). wellFormed (config s u) a (image r)) es ∙ image-wellFormed (config s u) sender most r sound)
         (recordIn-image (s .shared .n) sender (quorumOf s) u most r (holds .sound))
-        ∙ ap (λ (q : ℕ). take u q (h .signers) (payload (config s u) bundle) r) (config-quorum s u g l)
+        ∙ ap (λ (q : ℕ). update u q (h .signers) (payload (config s u) bundle) r) (config-quorum s u g l)
 
     accepted-here : Read (config s u) bundle h
     accepted-here = read-says (config s u) bundle h e
@@ -426,12 +426,12 @@ module _ (s : System) (g : good (config s 0) ≡ true) (u : ℕ) (l : u < s .sha
     module _ (turn : Turn) (f : turned ≡ done turn) where
       turn-payload : (isEmpty (turn .after) ≡ false) × (payloadOf (turn .after) ≡ payload (config s u) bundle)
       unfolding play
-      turn-payload = take-payload u (quorumOf s) (h .signers) (payload (config s u) bundle) r turn f
+      turn-payload = update-payload u (quorumOf s) (h .signers) (payload (config s u) bundle) r turn f
 
       turn-sound : Sound (s .shared .n) sender (quorumOf s) u (turn .after)
       unfolding play config
       turn-sound =
-          take-sound (s .shared .n) sender (quorumOf s) u (h .signers) (payload (config s u) bundle) l most
+          update-sound (s .shared .n) sender (quorumOf s) u (h .signers) (payload (config s u) bundle) l most
           (subst (λ (a : ℕ). Bundled (s .shared .n) a (h .signers) (payload (config s u) bundle)) es (accepted-here .bundled))
           r turn (holds .sound) f
 

@@ -13,7 +13,7 @@ use Rattle.bundle.specs.declared.Header.{Header}
 use Rattle.bundle.specs.Bundle.{read, readingOf, payload}
 use Rattle.bundle.proofs.Accepted.{accepted-readable}
 use Rattle.bundle.proofs.Fields.{bundle-words}
-use Rattle.protocol.specs.Slot.{take}
+use Rattle.protocol.specs.Slot.{update}
 use Rattle.record.specs.Record.{wellFormed, recordIn, imaged, stepOf}
 use Rattle.record.proofs.Words.{content}
 use Rattle.calls.specs.Records.{recordAt}
@@ -21,7 +21,7 @@ use Rattle.calls.specs.Receive.{receive}
 use Rattle.calls.specs.Settled.{numberIn}
 use Rattle.calls.proofs.Room.{in-range}
 use Rattle.calls.proofs.Taking.{read-says}
-use Rattle.calls.proofs.Refusals.{receive-no-effect, receive-unread, receive-out, receive-size, receive-malformed, receive-taken}
+use Rattle.calls.proofs.Refusals.{receive-no-effect, receive-unread, receive-out, receive-size, receive-malformed, receive-updated}
 use Rattle.calls.proofs.Settled.{settled-receipt, settled-records, settled-out}
 use borrow.Author.Needs.{needs}
 use Rattle.calls.proofs.receive.Statement.{statement}
@@ -32,7 +32,7 @@ use Rattle.calls.proofs.reason.Reads as reason-reads
 use Rattle.calls.proofs.settle.Reads as settle-reads
 use Rattle.config.proofs.Config.records_size.Reads as records-size-reads
 use Rattle.octets.proofs.word.Reads as word-reads
-use Rattle.record.proofs.Record.take.Reads as take-reads
+use Rattle.record.proofs.Record.update.Reads as update-reads
 use Rattle.record.proofs.Record.well_formed.Reads as well-formed-reads
 
 -- ---- the places on the way, each from a later one, and what is known there
@@ -72,35 +72,35 @@ sound-known c = c .well-formed .ensures ∙ ap (wellFormed (config (loaded c)) (
 
 -- ---- and at the step
 
-abbrev passed : tie.After-take → tie.After-well-formed
+abbrev passed : tie.After-update → tie.After-well-formed
 passed c = c .before .before .before .before .before .before
 
-abbrev out : tie.After-take → List ℕ
+abbrev out : tie.After-update → List ℕ
 out c = entry (sized (loaded (passed c)) .before) .args .out .now
 
-abbrev given : tie.After-take → tie.Else2
+abbrev given : tie.After-update → tie.Else2
 given c = loaded (passed c)
 
-sound : (c : tie.After-take) → wellFormed (config (given c)) (header (sized (given c) .before) .sender) (recordAt (config (given c)) (header (sized (given c) .before) .sender) (header (sized (given c) .before) .seq) (records (given c))) ≡ true
+sound : (c : tie.After-update) → wellFormed (config (given c)) (header (sized (given c) .before) .sender) (recordAt (config (given c)) (header (sized (given c) .before) .sender) (header (sized (given c) .before) .seq) (records (given c))) ≡ true
 sound c = sym (sound-known (passed c)) ∙ not-false _ (c .before .before .before .before .before .if3 .left)
 
 -- receiving is the step on the slot's record
-taken : (c : tie.After-take) → receive (config (given c)) (bundle (given c)) (records (given c)) (out c)
-    ≡ take (config (given c) .own) (quorum (config (given c))) (header (sized (given c) .before) .signers) (payload (config (given c)) (bundle (given c))) (recordIn (recordAt (config (given c)) (header (sized (given c) .before) .sender) (header (sized (given c) .before) .seq) (records (given c))))
-taken c = receive-taken _ _ _ _ _ (accepted (sized (given c) .before)) (sized (given c) .if1 .left) (long-known (given c)) (sound c)
+taken : (c : tie.After-update) → receive (config (given c)) (bundle (given c)) (records (given c)) (out c)
+    ≡ update (config (given c) .own) (quorum (config (given c))) (header (sized (given c) .before) .signers) (payload (config (given c)) (bundle (given c))) (recordIn (recordAt (config (given c)) (header (sized (given c) .before) .sender) (header (sized (given c) .before) .seq) (records (given c))))
+taken c = receive-updated _ _ _ _ _ (accepted (sized (given c) .before)) (sized (given c) .if1 .left) (long-known (given c)) (sound c)
 
 -- the two words are the payload's
-words-known : (c : tie.After-take) → content (c .before .before .before .word .result) (c .before .word2 .result) ≡ payload (config (given c)) (bundle (given c))
+words-known : (c : tie.After-update) → content (c .before .before .before .word .result) (c .before .word2 .result) ≡ payload (config (given c)) (bundle (given c))
 words-known c =
     let long = accepted-readable _ _ _ (accepted (sized (given c) .before)) .0 .long in
     ap₂ content (c .before .before .before .word .ensures) (c .before .word2 .ensures)
     ∙ bundle-words (bundle (given c)) long (λ i. sized (given c) .before .before .before .before .before .before .before .shared-slice-known .given i .fits)
     ∙ sym (read-says _ _ _ (accepted (sized (given c) .before)) .content)
 
-stepped : (c : tie.After-take) → stepOf (c .take .result) ≡ imaged (receive (config (given c)) (bundle (given c)) (records (given c)) (out c))
+stepped : (c : tie.After-update) → stepOf (c .update .result) ≡ imaged (receive (config (given c)) (bundle (given c)) (records (given c)) (out c))
 stepped c =
-    c .take .ensures
-    ∙ ap₂ (λ p xs. imaged (take (config (given c) .own) (quorum (config (given c))) (header (sized (given c) .before) .signers) p (recordIn xs))) (words-known c) (passed c .before .get .ensures)
+    c .update .ensures
+    ∙ ap₂ (λ p xs. imaged (update (config (given c) .own) (quorum (config (given c))) (header (sized (given c) .before) .signers) p (recordIn xs))) (words-known c) (passed c .before .get .ensures)
     ∙ ap imaged (sym (taken c))
 
 -- ---- the needs
@@ -169,8 +169,8 @@ part-word-end-2 c = let long = accepted-readable _ _ _ (accepted (sized (loaded 
 word-requires-2 : tie.Need-word-requires-2
 word-requires-2 c κs = search needs
 
-take-requires : tie.Need-take-requires
-take-requires c κs = search needs
+update-requires : tie.Need-update-requires
+update-requires c κs = search needs
 
 settle-requires : tie.Need-settle-requires
 settle-requires c κs =
@@ -218,7 +218,7 @@ receive-spec =
     part-word-start-2
     part-word-end-2
     word-requires-2
-    take-requires
+    update-requires
     settle-requires
     same-length-2
     same-length-3

@@ -1,6 +1,6 @@
 -- `sign` meets its contract: the cases of taking on an empty record. Assumes nothing.
 use mathlib.Core.Path.{sym, _∙_}
-use Rattle.record.proofs.Taken.{take-unknown, take-at-once, take-signed, step-refused, step-delivered, step-held}
+use Rattle.record.proofs.Updated.{update-unknown, update-at-once, update-signed, step-refused, step-delivered, step-held}
 use borrow.Author.Needs.{needs}
 use Rattle.record.proofs.sign.Statement.{statement}
 use Rattle.record.proofs.sign.Tie as tie
@@ -13,7 +13,7 @@ member-requires : tie.Need-member-requires
 member-requires c κs = search needs
 
 returns : tie.Need-returns
-returns c = step-refused _ _ (take-unknown _ _ _ _ (sym (c .before .member .ensures) ∙ c .if1 .taken))
+returns c = step-refused _ _ (update-unknown _ _ _ _ (sym (c .before .member .ensures) ∙ c .if1 .taken))
 
 insert-requires : tie.Need-insert-requires
 insert-requires c κs = search needs
@@ -27,13 +27,13 @@ size-requires c κs = search needs
 returns-2 : tie.Need-returns-2
 returns-2 c =
     step-delivered _ _ _ _ _ (c .before .before .before .insert .ensures)
-    (take-at-once _ _ _ _ (sym (c .before .before .before .before .before .member .ensures) ∙ c .before .before .before .before .if1 .left)
+    (update-at-once _ _ _ _ (sym (c .before .before .before .before .before .member .ensures) ∙ c .before .before .before .before .if1 .left)
     (rw (c .before .before .quorum .ensures, c .before .size .ensures, c .before .before .before .insert .ensures) at (c .if2 .taken)))
 
 returns-3 : tie.Need-returns-3
 returns-3 c =
     step-held _ _ _ _ _ (c .before .before .before .insert .ensures) _
-    (take-signed _ _ _ _ (sym (c .before .before .before .before .before .member .ensures) ∙ c .before .before .before .before .if1 .left)
+    (update-signed _ _ _ _ (sym (c .before .before .before .before .before .member .ensures) ∙ c .before .before .before .before .if1 .left)
     (rw (c .before .before .quorum .ensures, c .before .size .ensures, c .before .before .before .insert .ensures) at (c .if2 .left)))
 
 pub sign-spec : {M : Type 1} → statement M

@@ -1,4 +1,4 @@
--- `take` meets its contract: the record's state decides between the cases, and the payload's words between the last two. Assumes nothing.
+-- `update` meets its contract: the record's state decides between the cases, and the payload's words between the last two. Assumes nothing.
 use mathlib.Core.Path.{_≡_, sym, ap, ap₂, _∙_}
 use mathlib.Core.Bool.{and-eq-true-iff}
 use Prim.Native.Nat.{ℕ}
@@ -11,10 +11,10 @@ use Rattle.protocol.specs.Slot as slot
 use Rattle.record.specs.declared.Record.{Record}
 use Rattle.record.specs.Record.{bytes, recordIn, imaged}
 use Rattle.record.proofs.Words.{content, same-content, empty-words, held-words, delivered-words}
-use Rattle.record.proofs.Taken.{take-delivered, step-refused}
+use Rattle.record.proofs.Updated.{update-delivered, step-refused}
 use borrow.Author.Needs.{needs}
-use Rattle.record.proofs.Record.take.Statement.{statement}
-use Rattle.record.proofs.Record.take.Tie as tie
+use Rattle.record.proofs.Record.update.Statement.{statement}
+use Rattle.record.proofs.Record.update.Tie as tie
 use Rattle.record.proofs.Record.holds.Reads as holds-reads
 use Rattle.record.proofs.join.Reads as join-reads
 use Rattle.record.proofs.replace.Reads as replace-reads
@@ -22,8 +22,8 @@ use Rattle.record.proofs.sign.Reads as sign-reads
 
 -- taking on a record that is known
 taken-on : (c : tie.Start) {r : slot.Record} → recordIn (bytes (c .args .self)) ≡ r
-    → imaged (slot.take (c .args .config .own) (quorum (c .args .config)) (c .args .signers) (content (c .args .high) (c .args .low)) r)
-    ≡ imaged (slot.take (c .args .config .own) (quorum (c .args .config)) (c .args .signers) (content (c .args .high) (c .args .low)) (recordIn (bytes (c .args .self))))
+    → imaged (slot.update (c .args .config .own) (quorum (c .args .config)) (c .args .signers) (content (c .args .high) (c .args .low)) r)
+    ≡ imaged (slot.update (c .args .config .own) (quorum (c .args .config)) (c .args .signers) (content (c .args .high) (c .args .low)) (recordIn (bytes (c .args .self))))
 taken-on c e = rw e
 
 held-known : (c : tie.Else2) → recordIn (bytes (c .before .before .before .args .self)) ≡ slot.Held (c .before .before .before .args .self .signers) (content (c .before .before .before .args .self .high) (c .before .before .before .args .self .low))
@@ -38,7 +38,7 @@ payload-known c =
 -- ---- the needs
 
 returns : tie.Need-returns
-returns c = step-refused _ _ (ap (slot.take _ _ _ _) (delivered-words (c .before .before .args .self) (omega arith) (omega arith) (c .if1 .taken)) ∙ take-delivered _ _ _ _ _ _)
+returns c = step-refused _ _ (ap (slot.update _ _ _ _) (delivered-words (c .before .before .args .self) (omega arith) (omega arith) (c .if1 .taken)) ∙ update-delivered _ _ _ _ _ _)
 
 sign-requires : tie.Need-sign-requires
 sign-requires c κs = search needs
@@ -64,8 +64,8 @@ replace-requires c κs = payload-known (c .before) ∙ c .if3 .left
 returns-4 : tie.Need-returns-4
 returns-4 c = c .replace .ensures ∙ taken-on (c .before .before .before .before .before .before) (held-known (c .before .before .before))
 
-pub take-spec : {M : Type 1} → statement M
-take-spec =
+pub update-spec : {M : Type 1} → statement M
+update-spec =
     tie.close
     (tie.spec
     returns
