@@ -1,7 +1,7 @@
 -- What reading and writing accept and refuse, and that an answer is known by the paper's number and values.
 -- Assumes nothing.
 use mathlib.Core.Path.{_≡_, _∙_, sym, ap}
-use mathlib.Core.Bool.{Bool, true, false, not, and-eq-true-iff}
+use mathlib.Core.Bool.{true, false, and-eq-true-iff}
 use mathlib.Core.List.{List, []}
 use Prim.Native.Nat.{ℕ}
 use borrow.Author.Tests.{eqb-true, eq-eqb, ne-eqb, not-false}
@@ -10,17 +10,13 @@ use Rattle.octets.specs.Octets.{part}
 use Rattle.refusal.specs.Outcome.{refused, done, unless}
 use Rattle.refusal.specs.Refusal.{numberOf}
 use Rattle.refusal.proofs.Unique.{number-one, refused-number}
-use Rattle.refusal.proofs.Reasons.{refused-not-done, Clear, pass, stop, done-clear, clear-done, append-clear, clear-append, refused-first, done-first}
+use Rattle.refusal.proofs.Reasons.{passed, refused-not-done, Clear, pass, stop, done-clear, clear-done, append-clear, clear-append, refused-first, done-first}
 use Rattle.config.specs.declared.Config.{Config}
 use Rattle.config.specs.Config.{good}
 use Rattle.bundle.specs.declared.Header.{Header}
 use Rattle.bundle.specs.declared.Reading.{Reading}
 use Rattle.bundle.specs.declared.Reading.the-variants.{Accepted, Refused}
 use Rattle.bundle.specs.Bundle.{readingOf, size, payloadStart, payloadSize, emptyStart, bundleOf, dayOf, headerOf, headerReasons, readReasons, read, payload, payloadPlace, writeReasons, write}
-
--- a test that must not fail, passed
-passed : {b : Bool} → b ≡ true → not b ≡ false
-passed e = rw e
 
 pub record Readable (w : Config) (bundle : List ℕ) : Type 0 where
   pub configured : good w ≡ true

@@ -27,9 +27,9 @@ use Rattle.calls.specs.Receive.{receiveReasons, receive, receiveRecords,
 use Rattle.calls.specs.Delivered.{deliveredReasons, delivered, deliveredPart}
 use Rattle.calls.specs.Locality.{OnlyRecord, BroadcastChanges, ReceiveChanges, OpenDepends, ReceiveDepends, BroadcastDepends, BroadcastOwn, DeliveredDepends}
 use Rattle.calls.proofs.Records.{stored-length, stored-outside}
-use Rattle.calls.proofs.Refusals.{broadcast-effect, receive-left, receive-no-effect}
+use Rattle.calls.proofs.Refusals.{broadcast-effect, receive-left, receive-no-effect, receive-unread}
 use Rattle.calls.proofs.Found.{broadcast-done, search-agrees, search-own}
-use Rattle.calls.proofs.Taking.{read-says, receive-done, receive-unread}
+use Rattle.calls.proofs.Taking.{read-says, receive-done}
 
 -- ---- what a call changes
 

@@ -1,13 +1,13 @@
 -- Why each call refuses, in the order of its checks, and what it does where no reason applies.
 -- Assumes nothing.
 use mathlib.Core.Path.{_≡_, sym, ap, _∙_}
-use mathlib.Core.Bool.{Bool, true, false, cond, not}
+use mathlib.Core.Bool.{true, false, cond}
 use mathlib.Core.List.{List}
 use Prim.Native.Nat.{ℕ, _+_, _<_, _≤_}
 use lib.ListN.{length, replicate}
 use borrow.Author.Tests.{ltb-true, lt-ltb, le-ltb, eqb-true, eq-eqb, ne-eqb, not-false}
 use Rattle.refusal.specs.Outcome.{Outcome, refused, done, checked, _and-then_}
-use Rattle.refusal.proofs.Reasons.{pass, stop, done-clear, clear-done}
+use Rattle.refusal.proofs.Reasons.{passed, failed, pass, stop, done-clear, clear-done}
 use Rattle.config.specs.declared.Config.{Config}
 use Rattle.config.specs.Config.{good, slots, inRange, place, recordsSize, quorum}
 use Rattle.bundle.specs.declared.Header.{Header}
@@ -20,13 +20,6 @@ use Rattle.calls.specs.Broadcast.{search, announcedHeader, broadcastReas
 use Rattle.calls.specs.Receive.{recordBundle, receiveReasons, receive, receiveRecords, receiveOut, reported}
 use Rattle.calls.specs.Delivered.{deliveredReasons, delivered}
 use Rattle.calls.proofs.Room.{in-range}
-
--- a test that must hold, passed and failed
-passed : {b : Bool} → b ≡ true → not b ≡ false
-passed e = rw e
-
-failed : {b : Bool} → b ≡ false → not b ≡ true
-failed e = rw e
 
 -- ---- opening
 

@@ -1,17 +1,17 @@
 -- Receiving a bundle is the step of the slot's record, wherever that record is sound: what is read, checked and taken.
 -- Assumes nothing.
 use mathlib.Core.Path.{_≡_, refl, ap, _∙_, subst}
-use mathlib.Core.Bool.{true, not}
+use mathlib.Core.Bool.{true}
 use mathlib.Core.List.{List}
 use Prim.Native.Nat.{ℕ, _<_}
 use native.Mathlib.Omega.{arith}
 use lib.ListN.{length}
-use borrow.Author.Tests.{eqb-true, eq-eqb, not-false, ltb-true}
+use borrow.Author.Tests.{eqb-true, not-false, ltb-true}
 use Rattle.octets.specs.Octets.{part}
 use Rattle.octets.proofs.Numbers.{length-part}
 use Rattle.signers.specs.Signers.{member, within}
 use Rattle.refusal.specs.Outcome.{Outcome, refused, done, checked, _and-then_}
-use Rattle.refusal.proofs.Reasons.{Clear, refused-not-done, clear-done, done-clear}
+use Rattle.refusal.proofs.Reasons.{Clear, refused-not-done, done-clear}
 use Rattle.config.specs.declared.Config.{Config}
 use Rattle.config.specs.Config.{good, quorum, slots, recordsSize}
 use Rattle.bundle.specs.declared.Header.{Header}
@@ -22,6 +22,7 @@ use Rattle.protocol.proofs.Sound.{Bundled}
 use Rattle.record.specs.Record.{image, recordIn, wellFormed}
 use Rattle.calls.specs.Records.{recordAt}
 use Rattle.calls.specs.Receive.{receiveReasons, receive}
+use Rattle.calls.proofs.Refusals.{receive-updated}
 
 -- a bundle that reading accepts: its fields are in range, its day is the table's, and it has a bundle's signers and payload
 pub record Read (w : Config) (bundle : List ℕ) (h : Header) : Type 0 where
@@ -61,27 +62,13 @@ unfolding receiveReasons
 lengths w bundle records out h c = (eqb-true _ _ (not-false _ (c .0)), eqb-true _ _ (not-false _ (c .1 .0)))
 
 module _ (w : Config) (bundle records out : List ℕ) where
-  -- what refuses a bundle in reading refuses it
-  pub receive-unread : (number : ℕ) → read w bundle ≡ refused number → receive w bundle records out ≡ refused number
-  unfolding receive
-  receive-unread number e = rw e
-
   module _ (h : Header) (e : read w bundle ≡ done h) where
-    -- past the checks, the record is taken
-    receive-checked : checked (receiveReasons w bundle records out h) ≡ done tt
-        → receive w bundle records out ≡ update (w .own) (quorum w) (h .signers) (payload w bundle) (recordIn (recordAt w (h .sender) (h .seq) records))
-    unfolding receive
-    receive-checked c = rw (e, c)
-
     -- a sound record is taken as the step says
     pub receive-updates : (r : Record) → length out ≡ size → length records ≡ recordsSize w → recordAt w (h .sender) (h .seq) records ≡ image r
         → wellFormed w (h .sender) (image r) ≡ true → recordIn (image r) ≡ r
         → receive w bundle records out ≡ update (w .own) (quorum w) (h .signers) (payload w bundle) r
-    unfolding receiveReasons
     receive-updates r room size held sound back =
-        receive-checked
-        (clear-done (receiveReasons w bundle records out h) tt
-        (ap not (eq-eqb _ _ room), (ap not (eq-eqb _ _ size), (ap not (ap (wellFormed w (h .sender)) held ∙ sound), tt))))
+        receive-updated w bundle records out h e room size (ap (wellFormed w (h .sender)) held ∙ sound)
         ∙ ap (update (w .own) (quorum w) (h .signers) (payload w bundle)) (ap recordIn held ∙ back)
 
     -- a bundle that is taken found 32 outgoing bytes, a buffer of the right size, and some record

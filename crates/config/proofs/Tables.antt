@@ -1,11 +1,11 @@
 -- The ten tables of document 01, by one test computed over the list.
 -- Assumes nothing.
-use mathlib.Core.Path.{_≡_, refl, sym}
-use mathlib.Core.Bool.{Bool, true, false, _&&_, Bool·beq, and-eq-true-iff}
+use mathlib.Core.Path.{_≡_, refl}
+use mathlib.Core.Bool.{Bool, true, _&&_, Bool·beq, and-eq-true-iff}
 use Prim.Native.Nat.{ℕ}
 use borrow.Author.Tests.{eqb-true}
 use lib.Dec.{eqb}
-use Rattle.octets.proofs.Listed.{every, every-says}
+use Rattle.octets.proofs.Listed.{every, every-says, agree-says}
 use Rattle.config.specs.Config.{good, quorum}
 use Rattle.config.specs.Tables.{Row, tables, configOf, TablesHold}
 
@@ -16,14 +16,8 @@ all-hold : (day : ℕ) → every (holds day) tables ≡ true
 unfolding holds tables good quorum
 all-hold day = refl
 
-same : (a b : Bool) → Bool·beq a b ≡ true → a ≡ b
-same true true e = refl
-same true false e = sym e
-same false true e = e
-same false false e = refl
-
 pub tables-hold : TablesHold
 unfolding holds
 tables-hold r day m =
     let both = and-eq-true-iff _ _ .0 (every-says (holds day) m (all-hold day)) in
-    (same _ _ (both .0), eqb-true _ _ (both .1))
+    (agree-says _ _ (both .0), eqb-true _ _ (both .1))

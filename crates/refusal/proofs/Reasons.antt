@@ -2,7 +2,7 @@
 -- none applied. Every call's refusals go by these laws.
 -- Assumes nothing.
 use mathlib.Core.Path.{_≡_, refl, sym, ap}
-use mathlib.Core.Bool.{Bool, true, false}
+use mathlib.Core.Bool.{Bool, true, false, not}
 use mathlib.Core.List.{List, [], _∷_, _++_}
 use Prim.Native.Nat.{ℕ}
 use native.Mathlib.Omega.{arith}
@@ -12,6 +12,13 @@ use Rattle.refusal.specs.Outcome.{Outcome, refused, done, Reason, _if_, 
 abbrev pub Clear : List Reason → Type 0
 Clear [] = Unit
 Clear ((number if applies) ∷ rest) = (applies ≡ false) × Clear rest
+
+-- a reason that is the failing of a test: the test passes, or it fails
+pub passed : {b : Bool} → b ≡ true → not b ≡ false
+passed e = rw e
+
+pub failed : {b : Bool} → b ≡ false → not b ≡ true
+failed e = rw e
 
 module _ {A : Type 0} where
   -- a check that passes leaves the reasons after it

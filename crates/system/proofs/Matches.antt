@@ -31,7 +31,8 @@ use Rattle.calls.specs.Broadcast.{broadcast, broadcastRecords, broadcastOut}
 use Rattle.calls.specs.Receive.{recordBundle, receive, receiveRecords, receiveOut}
 use Rattle.calls.proofs.Records.{stored-length, stored-there, stored-elsewhere, zeros-at}
 use Rattle.calls.proofs.Found.{Announced, broadcast-done}
-use Rattle.calls.proofs.Taking.{Read, read-says, receive-unread, receive-updates, receive-done}
+use Rattle.calls.proofs.Taking.{Read, read-says, receive-updates, receive-done}
+use Rattle.calls.proofs.Refusals.{receive-unread}
 use Rattle.calls.proofs.Sent.{sent-reads}
 use Rattle.system.specs.Demand3.{Call, Open, Broadcast, Receive, System, config, inSlot, payloadIn, recordsAfter, outAfter, announces, deliversIn, delivers, sends, sendsIn, reaches}
 use Rattle.system.proofs.Views.{View, opening, announced-here, announced-elsewhere, announced-not, handed-here, handed-elsewhere, handed-short, handed-unread}

@@ -19,7 +19,8 @@ use Rattle.protocol.specs.Slot.{Turn, signersOf, payloadOf}
 use Rattle.calls.specs.Broadcast.{broadcast, broadcastOut}
 use Rattle.calls.specs.Receive.{recordBundle, receive, receiveOut}
 use Rattle.calls.proofs.Found.{broadcast-done}
-use Rattle.calls.proofs.Taking.{read-says, receive-unread}
+use Rattle.calls.proofs.Taking.{read-says}
+use Rattle.calls.proofs.Refusals.{receive-unread}
 use Rattle.system.specs.Demand3.{Call, Open, Broadcast, Receive, System, config, inSlot, outAfter, announces, deliversIn, sends, sendsIn}
 use Rattle.system.proofs.Matches.{slotHeader, bundleIn, answerTo, bundle-slot}
 

@@ -10,6 +10,7 @@ use lib.ListN.{length}
 use borrow.Author.Tests.{eqb-true, ltb-true}
 use Rattle.octets.specs.Octets.{same}
 use Rattle.octets.proofs.Same.{same-says}
+use Rattle.octets.proofs.Listed.{agree-says}
 use Rattle.signers.specs.Signers.{member}
 use Rattle.refusal.specs.Outcome.{Outcome, done, after}
 use Rattle.config.specs.Config.{good, recordsSize}
@@ -20,13 +21,6 @@ use Rattle.protocol.specs.Trace.{Trace, start, _then_calls_, each}
 use Rattle.protocol.proofs.Traces.{ever-grows}
 use Rattle.protocol.proofs.Tested.{each-says, implies, implies-says}
 use Rattle.system.specs.Demand3.{Call, Open, Broadcast, Receive, System, config, correct, recordsAfter, outAfter, opens, sends, sendsThis, signs, buffer, ever, called, Unforged, Lawful}
-
--- two tests with the same answer
-agree-says : (a b : Bool) → Bool·beq a b ≡ true → a ≡ b
-agree-says true true e = refl
-agree-says true false e = sym e
-agree-says false true e = e
-agree-says false false e = refl
 
 -- what passes a test if there is a result passes it at that result
 after-says : {A : Type 0} (outcome : Outcome A) (test : A → Bool) (result : A) → after outcome test true ≡ true → outcome ≡ done result → test result ≡ true
