@@ -1,5 +1,6 @@
 -- `sign` meets its contract: the cases of taking on an empty record. Assumes nothing.
 use mathlib.Core.Path.{sym, _∙_}
+use native.Mathlib.Omega.{arith}
 use Rattle.record.proofs.Updated.{update-unknown, update-at-once, update-signed, step-refused, step-delivered, step-held}
 use borrow.Author.Needs.{needs}
 use Rattle.record.proofs.sign.Statement.{statement}
@@ -26,13 +27,13 @@ size-requires c κs = search needs
 
 returns-2 : tie.Need-returns-2
 returns-2 c =
-    step-delivered _ _ _ _ _ (c .before .before .before .insert .ensures)
+    step-delivered _ _ _ _ _ (omega (arith, c .before .before .before .insert .ensures))
     (update-at-once _ _ _ _ (sym (c .before .before .before .before .before .member .ensures) ∙ c .before .before .before .before .if1 .left)
     (rw (c .before .before .quorum .ensures, c .before .size .ensures, c .before .before .before .insert .ensures) at (c .if2 .taken)))
 
 returns-3 : tie.Need-returns-3
 returns-3 c =
-    step-held _ _ _ _ _ (c .before .before .before .insert .ensures) _
+    step-held _ _ _ _ _ (omega (arith, c .before .before .before .insert .ensures)) _
     (update-signed _ _ _ _ (sym (c .before .before .before .before .before .member .ensures) ∙ c .before .before .before .before .if1 .left)
     (rw (c .before .before .quorum .ensures, c .before .size .ensures, c .before .before .before .insert .ensures) at (c .if2 .left)))
 
