@@ -93,3 +93,8 @@ quorum-strict w k e = rw e (go (ltb (w .n + w .t) (k + k)) refl)
     go : (b : Bool) → ltb (w .n + w .t) (k + k) ≡ b → leb ((w .n + w .t) / 2 + 1) k ≡ b
     go true h = le-leb ((w .n + w .t) / 2 + 1) k (omega (arith, ltb-true (w .n + w .t) (k + k) h))
     go false h = lt-leb ((w .n + w .t) / 2 + 1) k (omega (arith, ltb-false (w .n + w .t) (k + k) h))
+
+-- tables that differ in own number and day alone have one quorum
+pub quorum-shared : (w v : Config) → w .n ≡ v .n → w .t ≡ v .t → good w ≡ true → good v ≡ true → quorum w ≡ quorum v
+unfolding quorum
+quorum-shared w v n t g h = rw (g, h, n, t)

@@ -24,7 +24,8 @@ use Rattle.protocol.proofs.OneSlot.{one-slot-holds}
 use Rattle.system.specs.Demand3.{Call, System, config, correct, c, NearlyAll, recordsAfter, announces, deliversIn, delivers, sendsThis, sendsIn, reaches, ever, times, Assumed, Agreement, Once, Validity, Twice, Reached, Delivery, Demand3}
 use Rattle.system.proofs.Projection.{act-says, ever-forth, ever-back, times-forth, ever-says, never-times}
 use Rattle.system.proofs.Views.{act}
-use Rattle.system.proofs.Matches.{quorumOf, bundleIn, Match}
+use Rattle.system.proofs.Shared.{quorumOf, bundleIn}
+use Rattle.system.proofs.Matches.{Match}
 use Rattle.system.proofs.Tests.{asked, delivers-in, delivers-any, delivers-forth, delivers-back, announces-forth, announces-back, reaches-forth, sends-forth, sends-back, sends-bundled}
 use Rattle.system.proofs.Ranges.{InRange, delivers-range, announces-range, sends-range}
 use Rattle.system.proofs.Slots.{acts, AllMatched, lawful-matched, lawful-acts}

@@ -5,18 +5,18 @@ use mathlib.Core.Path.{_≡_, refl, sym, ap, ap₂, _∙_, subst}
 use mathlib.Core.Option.{Option, none, some}
 use mathlib.Core.Bool.{Bool, true, false, cond, not, _&&_, true≢false, and-false, and-true, and-eq-true-iff}
 use mathlib.Core.List.{List, [], _∷_}
-use Prim.Native.Nat.{ℕ, _+_, _/_, _≤_, _<_, _^_}
+use Prim.Native.Nat.{ℕ, _≤_, _<_, _^_}
 use lib.Dec.{eqb}
 use lib.ListN.{length, replicate, length-replicate}
 use borrow.Author.Tests.{eq-eqb, eqb-false}
-use Rattle.octets.specs.Octets.{same, bytesOf, blank}
+use Rattle.octets.specs.Octets.{same, blank}
 use Rattle.octets.proofs.Same.{same-says, same-self}
 use Rattle.signers.specs.Signers.{insert}
 use Rattle.refusal.specs.Outcome.{Outcome, refused, done, _if_, after}
 use Rattle.refusal.proofs.Reasons.{clear-done, refused-not-done}
 use Rattle.config.specs.declared.Config.{Config}
-use Rattle.config.specs.Config.{good, quorum, slots, recordSize, recordsSize}
-use Rattle.config.proofs.Laws.{good-says, says-good}
+use Rattle.config.specs.Config.{good, slots, recordSize, recordsSize}
+use Rattle.config.proofs.Laws.{good-says}
 use Rattle.bundle.specs.declared.Header.{Header}
 use Rattle.bundle.specs.Bundle.{size, payloadSize, bundleOf, dayOf, headerOf, read, payload}
 use Rattle.protocol.specs.Slot as slot
@@ -36,57 +36,7 @@ use Rattle.calls.proofs.Refusals.{receive-unread}
 use Rattle.calls.proofs.Sent.{sent-reads}
 use Rattle.system.specs.Demand3.{Call, Open, Broadcast, Receive, System, config, inSlot, payloadIn, recordsAfter, outAfter, announces, deliversIn, delivers, sends, sendsIn, reaches}
 use Rattle.system.proofs.Views.{View, opening, announced-here, announced-elsewhere, announced-not, handed-here, handed-elsewhere, handed-short, handed-unread}
-
--- ---- the table that the nodes share
-
--- the quorum, which is every node's
-abbrev pub quorumOf : System → ℕ
-quorumOf s = quorum (config s 0)
-
--- a good table is good at every node
-pub config-good : (s : System) (u : ℕ) → good (config s 0) ≡ true → u < s .shared .n → good (config s u) ≡ true
-unfolding config
-config-good s u g l =
-    let b = good-says (config s 0) g in
-    says-good (config s u) (record { some = b .some; most = b .most; resilient = b .resilient; known = l })
-
-quorum-is : (w : Config) → good w ≡ true → quorum w ≡ (w .n + w .t) / 2 + 1
-unfolding quorum
-quorum-is w g = rw g
-
-pub config-quorum : (s : System) (u : ℕ) → good (config s 0) ≡ true → u < s .shared .n → quorum (config s u) ≡ quorumOf s
-unfolding config
-config-quorum s u g l = quorum-is (config s u) (config-good s u g l) ∙ sym (quorum-is (config s 0) g)
-
--- ---- the slot of a bundle that was put together
-
-abbrev pub slotHeader : ℕ → ℕ → ℕ → Header
-slotHeader sender seq signers = record { sender = sender; seq = seq; signers = signers }
-
--- the bundle in the slot
-abbrev pub bundleIn : System → ℕ → ℕ → ℕ → List ℕ → List ℕ
-bundleIn s sender seq signers content = bundleOf (s .shared .day) (slotHeader sender seq signers) content
-
--- the record's bundle, in the slot that a bundle names
-abbrev pub answerTo : System → List ℕ → Record → List ℕ
-answerTo s bundle r = bundleIn s (headerOf bundle .sender) (headerOf bundle .seq) (signersOf r) (payloadOf r)
-
--- what names another slot is not in this one
-pub other-slot : (day sender seq : ℕ) (bundle : List ℕ) → (eqb (headerOf bundle .sender) sender && eqb (headerOf bundle .seq) seq) ≡ false
-    → inSlot day sender seq bundle ≡ false
-unfolding inSlot
-other-slot day sender seq bundle e = ap (λ (b : Bool). eqb (dayOf bundle) day && b) e ∙ and-false (eqb (dayOf bundle) day)
-
--- a bundle names the slot that it was put together for
-pub bundle-slot : (day : ℕ) (h : Header) (content : List ℕ)
-    → (headerOf (bundleOf day h content) .sender ≡ h .sender) × (headerOf (bundleOf day h content) .seq ≡ h .seq)
-unfolding headerOf bundleOf bytesOf
-bundle-slot day h content = (refl, refl)
-
-other-bundle : (day sender seq : ℕ) (h : Header) (content : List ℕ) → (eqb (h .sender) sender && eqb (h .seq) seq) ≡ false
-    → inSlot day sender seq (bundleOf day h content) ≡ false
-unfolding headerOf bundleOf bytesOf
-other-bundle day sender seq h content e = other-slot day sender seq (bundleOf day h content) e
+use Rattle.system.proofs.Shared.{quorumOf, config-good, config-quorum, slotHeader, bundleIn, answerTo, other-slot, other-bundle}
 
 -- ---- what a node keeps of the slot
 

@@ -22,7 +22,7 @@ use Rattle.calls.proofs.Found.{broadcast-done}
 use Rattle.calls.proofs.Taking.{read-says}
 use Rattle.calls.proofs.Refusals.{receive-unread}
 use Rattle.system.specs.Demand3.{Call, Open, Broadcast, Receive, System, config, inSlot, outAfter, announces, deliversIn, sends, sendsIn}
-use Rattle.system.proofs.Matches.{slotHeader, bundleIn, answerTo, bundle-slot}
+use Rattle.system.proofs.Shared.{slotHeader, bundleIn, answerTo, bundle-slot}
 
 -- the slot is a sender's, who is one of the nodes, and has one of the sixteen numbers
 abbrev pub InRange : System → ℕ → ℕ → Type 0

@@ -22,7 +22,8 @@ use Rattle.system.specs.Demand3.{Call, Open, Broadcast, Receive, System,
 use Rattle.system.proofs.Projection as projection
 use Rattle.system.proofs.Projection.{project, Matched, state-project, ever-forth}
 use Rattle.system.proofs.Views.{act, View, view, opening, announced-here, announced-elsewhere, announced-not, handed-here, handed-elsewhere, handed-short, handed-unread}
-use Rattle.system.proofs.Matches.{quorumOf, Holds, Ready, Match, matches}
+use Rattle.system.proofs.Shared.{quorumOf}
+use Rattle.system.proofs.Matches.{Holds, Ready, Match, matches}
 use Rattle.system.proofs.Tests.{signs-forth}
 
 -- a correct node is one of the n

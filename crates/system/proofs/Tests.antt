@@ -24,7 +24,8 @@ use Rattle.calls.proofs.Sent.{sent-reads}
 use Rattle.system.specs.Demand3.{Call, Open, Broadcast, Receive, System, config, inSlot, payloadIn, recordsAfter, outAfter, announces, deliversIn, delivers, sends, sendsThis, sendsIn, signs, reaches}
 use Rattle.system.proofs.Projection as projection
 use Rattle.system.proofs.Views.{act}
-use Rattle.system.proofs.Matches.{quorumOf, bundleIn, slotHeader, Match}
+use Rattle.system.proofs.Shared.{quorumOf, bundleIn, slotHeader}
+use Rattle.system.proofs.Matches.{Match}
 
 -- a test on the act that a call comes to, at its node
 abbrev pub asked : (s : System) (sender seq : ℕ) → (ℕ → Act → Record → Bool) → ℕ → Option Act → Record → Bool
