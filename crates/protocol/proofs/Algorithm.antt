@@ -3,12 +3,12 @@
 -- tests of taking. Assumes nothing.
 use mathlib.Core.Path.{_≡_, refl, sym, ap, _∙_}
 use mathlib.Core.Logic.{inl, inr}
-use mathlib.Core.Bool.{Bool, true, false, cond, and-false}
+use mathlib.Core.Bool.{Bool, true, false, cond, and-false, not}
 use mathlib.Core.List.{List, [], _∷_}
 use Prim.Native.Nat.{ℕ, _+_, _^_}
 use lib.Bits.{bitOr, or-zero-l, or-zero-r}
 use lib.Dec.{leb, ltb}
-use borrow.Author.Tests.{ltb-true, lt-leb, eq-eqb}
+use borrow.Author.Tests.{ltb-true, lt-leb, eq-eqb, le-leb, ltb-false}
 use Rattle.octets.specs.Octets.{same}
 use Rattle.octets.proofs.Same.{same-says, same-self, same-flip}
 use Rattle.signers.specs.Signers.{member, insert, union, size}
@@ -46,14 +46,14 @@ broadcast-follows own m = (record { alike = λ x. rw (same-flip x m); signed-ali
 -- ---- taking
 
 -- the state is the paper's with one message kept, and the effects are the paper's with the repeated bundle left out
-abbrev Alike : Turn → Run → Type 0
-Alike turn run = SameState (stateOf (turn .after)) (keepOne (payloadOf (turn .after)) (run .state)) × (effectsOf turn ≡ sendOnce (run .effects))
+abbrev Alike : List ℕ → Turn → Run → Type 0
+Alike m turn run = SameState (stateOf (turn .after)) (keepOne m (run .state)) × (effectsOf turn ≡ sendOnce (run .effects))
 
 module _ (n t own sender q sigs : ℕ) (m : List ℕ) (r : Record) (quorum : (k : ℕ) → leb q k ≡ ltb (n + t) (k + k)) where
   -- Where lines 4 to 8 save for the message what the record gathers, and send a bundle if the record was empty, taking follows: line 9 delivers
   -- where taking does.
   gathers : (σ : State) → σ .saved m ≡ gathered own q sigs m r → σ .hasSigned ≡ true → σ .hasDelivered ≡ false
-      → Alike (updated own q sigs m r) (andLine9 n t own sender m (record { state = σ; effects = cond (isEmpty r) (bundleEffect m σ ∷ []) [] }))
+      → Alike m (updated own q sigs m r) (andLine9 n t own sender m (record { state = σ; effects = cond (isEmpty r) (bundleEffect m σ ∷ []) [] }))
   unfolding updated andLine9 line9 bundleEffect stateOf keepOne effectsOf sendOnce
   gathers σ e made waits = go (leb q (size word)) (isEmpty r) (rw e (sym (quorum (size word))))
     where
@@ -66,7 +66,7 @@ module _ (n t own sender q sigs : ℕ) (m : List ℕ) (r : Record) (quorum : (k 
       state-alike ours theirs d = record { alike = λ x. one-kept (σ .saved) m x word e; signed-alike = sym made; delivered-alike = d }
 
       go : (full fresh : Bool) → ltb (n + t) (size (σ .saved m) + size (σ .saved m)) ≡ full
-          → Alike (cond full (record { answer = delivered; after = Delivered word m }) (record { answer = cond fresh signed kept; after = Held word m }))
+          → Alike m (cond full (record { answer = delivered; after = Delivered word m }) (record { answer = cond fresh signed kept; after = Held word m }))
           (andLine9 n t own sender m (record { state = σ; effects = cond fresh (bundleEffect m σ ∷ []) [] }))
       go true true h = rw h (state-alike true true refl, rw (eq-eqb (σ .saved m) (σ .saved m) refl, same-self m, e))
       go true false h = rw h (state-alike true true refl, rw e)
@@ -78,6 +78,11 @@ module _ (n t own sender q sigs : ℕ) (m : List ℕ) (r : Record) (quorum : (k 
   unfolding line9
   too-few σ e f = rw (e, ← (quorum (size sigs)), lt-leb q (size sigs) (ltb-true (size sigs) q f))
 
+  -- with a quorum, it delivers
+  enough : (σ : State) → σ .saved m ≡ sigs → ltb (size sigs) q ≡ false → line9 n t own sender m σ .state .hasDelivered ≡ true
+  unfolding line9
+  enough σ e f = rw (e, ← (quorum (size sigs)), le-leb q (size sigs) (ltb-false (size sigs) q f))
+
 -- Empty: 23, or lines 4 to 12. Held: this message, and lines 4 and 9 to 12; or another, and 23, 24, or a full quorum at once. Delivered: 22.
 pub update-follows : UpdateFollows
 unfolding update updateReasons unless gathered onBundle line5 andLine9 save sign stateOf keepOne bundleEffect
@@ -87,7 +92,7 @@ update-follows n t own sender q sigs m Empty quorum present = go (member sigs ow
     go true e = rw e (inr (inl (refl, e, nobody own)))
     go false e =
         let saved = sign own m (save m sigs (stateOf Empty)) in
-        rw (e, present) (gathers n t own sender q sigs m Empty quorum saved (rw (same-self m) (one-joined sigs own)) refl refl)
+        rw (e, present) (refl, refl, gathers n t own sender q sigs m Empty quorum saved (rw (same-self m) (one-joined sigs own)) refl refl)
 update-follows n t own sender q sigs m (Held s p) quorum present = go (same p m) refl (member sigs own) refl (ltb (size sigs) q) refl
   where
     saved : State
@@ -101,13 +106,14 @@ update-follows n t own sender q sigs m (Held s p) quorum present = go (same p m)
     go : (held : Bool) → same p m ≡ held → (ours : Bool) → member sigs own ≡ ours → (few : Bool) → ltb (size sigs) q ≡ few
         → Follows n t own sender sigs m (Held s p) (update own q sigs m (Held s p))
     go true h ours e few f =
-        rw (h, and-false (member sigs own), present) (gathers n t own sender q sigs m (Held s p) quorum saved (rw (same-self m, h)) refl refl)
+        rw (h, and-false (member sigs own), present) (refl, rw h, gathers n t own sender q sigs m (Held s p) quorum saved (rw (same-self m, h)) refl refl)
     go false h true e few f = rw (h, e) (inr (inl (refl, e, rw h (nobody own))))
     go false h false e true f =
         let quiet = too-few n t own sender q sigs m (Held s p) quorum saved (rw (same-self m, h)) f in
         let back : SameState (keepOne p saved) (stateOf (Held s p)) = record { alike = λ x. dropped h x (same p x) refl; signed-alike = refl; delivered-alike = refl } in
         rw (h, e, f, present, quiet) (inr (inr (refl, rw h, back, refl)))
     go false h false e false f =
-        rw (h, e, f, present) (gathers n t own sender q sigs m (Held s p) quorum saved (rw (same-self m, h)) refl refl)
+        let full = enough n t own sender q sigs m (Held s p) quorum saved (rw (same-self m, h)) f in
+        rw (h, e, f, present) (refl, rw h (ap not full), gathers n t own sender q sigs m (Held s p) quorum saved (rw (same-self m, h)) refl refl)
 update-follows n t own sender q sigs m (Delivered s p) quorum present =
     inl (refl, refl, record { alike = λ x. refl; signed-alike = refl; delivered-alike = refl }, refl)

@@ -78,8 +78,8 @@ module _ (n t own sender : ℕ) (m : List ℕ) where
 
 -- ---- the differences of document 01
 
--- "A unit holds one body per slot": of the saved signatures those for one message stay, the others are dropped. "Another body is delivered
--- only if a single bundle brings a full quorum for it" follows: nothing was saved for it before.
+-- "A unit holds one body per slot, the one it signed.": of the saved signatures those for one message stay, the others are dropped. "Another
+-- body is delivered only if a single bundle brings a full quorum for it" follows: nothing was saved for it before.
 unfoldable pub keepOne : List ℕ → State → State
 keepOne m σ = record { saved = λ x. cond (same m x) (σ .saved x) 0; hasSigned = σ .hasSigned; hasDelivered = σ .hasDelivered }
 
@@ -120,14 +120,18 @@ module _ (n t own sender : ℕ) (sigs : ℕ) (m : List ℕ) (r : Record) where
   abbrev run : Run
   run = onBundle n t own sender m sigs (stateOf r)
 
-  -- Done: the state is the paper's with one message kept, what is sent is what the paper sends with the repeated bundle left out, and what is
-  -- delivered is what the paper delivers.
+  -- Done: the slot was not delivered, and if it held another message the paper delivers this one now. Of the paper's state this message is kept:
+  -- it is the one held, or the first, or the one delivered. What is sent is what the paper sends with the repeated bundle left out, and what
+  -- is delivered is what the paper delivers.
   -- 22: line 3 fails, and the paper does nothing either.
   -- 23: the bundle has a signature of p_i for m that p_i has not saved, so never made (lines 1 and 6 save each one made): it is not valid, and
   -- the paper's model has no such bundle.
   -- 24: the paper saves the signatures for another message (line 4) and does nothing else; we drop them.
   abbrev pub Follows : Outcome Turn → Type 0
-  Follows (done turn) = SameState (stateOf (turn .after)) (keepOne (payloadOf (turn .after)) (run .state)) × (effectsOf turn ≡ sendOnce (run .effects))
+  Follows (done turn) =
+      (isDelivered r ≡ false)
+      × ((holdsOther r m && not (run .state .hasDelivered)) ≡ false)
+      × (SameState (stateOf (turn .after)) (keepOne m (run .state)) × (effectsOf turn ≡ sendOnce (run .effects)))
   Follows (refused number) =
       ((number ≡ 22) × (stateOf r .hasDelivered ≡ true) × SameState (run .state) (stateOf r) × (run .effects ≡ []))
       ⊎ ((number ≡ 23) × (member sigs own ≡ true) × (member (stateOf r .saved m) own ≡ false))
