@@ -20,7 +20,7 @@ use Rattle.record.proofs.Image.{recordIn-image, image-length}
 use Rattle.calls.specs.Records.{recordAt, stored}
 use Rattle.calls.specs.Open.{openRecords}
 use Rattle.calls.specs.Receive.{recordBundle, receive, receiveRecords, receiveOut}
-use Rattle.calls.specs.Algorithm.{kept, OpenStarts, BroadcastFollows, ReceiveFollows}
+use Rattle.calls.specs.Algorithm.{recordOf, OpenStarts, BroadcastFollows, ReceiveFollows}
 use Rattle.calls.proofs.Records.{recordAt-length, stored-there, zeros-at}
 use Rattle.calls.proofs.Refusals.{opened-done, broadcast-effect, receive-left, receive-updated}
 use Rattle.calls.proofs.Found.{broadcast-done}
@@ -33,9 +33,9 @@ unfolding recordIn
 empty-zeros = refl
 
 -- a sound record that is stored is kept
-kept-stored : (w : Config) (records : List ℕ) (sender seq : ℕ) (r : Record) → good w ≡ true → length records ≡ recordsSize w → sender < w .n → seq < slots
-    → Sound (w .n) sender (quorum w) (w .own) r → kept w sender seq (stored w sender seq (image r) records) ≡ r
-kept-stored w records sender seq r g l hs hk fine =
+record-stored : (w : Config) (records : List ℕ) (sender seq : ℕ) (r : Record) → good w ≡ true → length records ≡ recordsSize w → sender < w .n → seq < slots
+    → Sound (w .n) sender (quorum w) (w .own) r → recordOf w sender seq (stored w sender seq (image r) records) ≡ r
+record-stored w records sender seq r g l hs hk fine =
     let whole = image-length r (λ some. sound-bundled (w .n) sender (quorum w) (w .own) r some fine .whole) in
     ap recordIn (stored-there w g records l sender seq hs hk (image r) whole) ∙ recordIn-image (w .n) sender (quorum w) (w .own) (good-says w g .most) r fine
 
@@ -54,8 +54,8 @@ broadcast-follows w content records out seq e =
     let (records-left, out-left) = broadcast-effect w content records out seq e in
     let (state, effects) = values.broadcast-follows (w .own) content in
     let after =
-    ap (kept w (w .own) seq) (sym records-left)
-    ∙ kept-stored w records (w .own) seq (announcedBy (w .own) content) (ok .configured) (ok .sized) (g .known) (ok .slot)
+    ap (recordOf w (w .own) seq) (sym records-left)
+    ∙ record-stored w records (w .own) seq (announcedBy (w .own) content) (ok .configured) (ok .sized) (g .known) (ok .slot)
     (announced-sound (w .n) (quorum w) (w .own) content (g .known) (g .most) (ok .whole)) in
     (ap recordIn zeros ∙ empty-zeros, rw after state, effects, sym out-left)
 
@@ -63,12 +63,12 @@ pub receive-follows : ReceiveFollows
 receive-follows w bundle records out h e o l sound =
     let ok = read-says w bundle h e in
     let taken = receive-updated w bundle records out h e o l sound in (
-      subst (algorithm.Follows (w .n) (w .t) (w .own) (h .sender) (h .signers) (payload w bundle) (kept w (h .sender) (h .seq) records)) (sym taken)
-          (values.update-follows (w .n) (w .t) (w .own) (h .sender) (quorum w) (h .signers) (payload w bundle) (kept w (h .sender) (h .seq) records)
+      subst (algorithm.Follows (w .n) (w .t) (w .own) (h .sender) (h .signers) (payload w bundle) (recordOf w (h .sender) (h .seq) records)) (sym taken)
+          (values.update-follows (w .n) (w .t) (w .own) (h .sender) (quorum w) (h .signers) (payload w bundle) (recordOf w (h .sender) (h .seq) records)
           (λ k. quorum-strict w k (ok .configured)) (ok .bundled .authentic)),
       λ turn f. (
-        ap (kept w (h .sender) (h .seq)) (left turn f (ok .fields))
-            ∙ kept-stored w records (h .sender) (h .seq) (turn .after) (ok .configured) l (ok .sender-known) (ok .slot)
+        ap (recordOf w (h .sender) (h .seq)) (left turn f (ok .fields))
+            ∙ record-stored w records (h .sender) (h .seq) (turn .after) (ok .configured) l (ok .sender-known) (ok .slot)
             (turn-sound w bundle records out h e l sound taken turn f .1),
         written turn f (ok .fields),
       ),

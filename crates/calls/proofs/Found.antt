@@ -1,11 +1,12 @@
 -- What the search for a free record finds, and what a broadcast that is done has passed.
 -- Assumes nothing.
-use mathlib.Core.Path.{_≡_, refl, sym, ap, _∙_}
-use mathlib.Core.Bool.{Bool, true, false, cond}
+use mathlib.Core.Path.{_≡_, refl, sym, ap, _∙_, subst}
+use mathlib.Core.Bool.{Bool, true, false, cond, true≢false}
 use mathlib.Core.List.{List}
 use Prim.Native.Nat.{ℕ, zero, suc, _+_, _-_, _≤_, _<_}
 use native.Mathlib.Numerals.{add-one}
 use native.Mathlib.Omega.{arith}
+use lib.Arith.{lt-of-le-ne}
 use lib.ListN.{length}
 use borrow.Author.Tests.{eqb-true, not-false}
 use Rattle.octets.specs.Octets.{blank}
@@ -17,6 +18,7 @@ use Rattle.bundle.specs.Bundle.{payloadSize}
 use Rattle.record.specs.Record.{wellFormed}
 use Rattle.calls.specs.Records.{recordAt}
 use Rattle.calls.specs.Broadcast.{search, broadcastReasons, broadcast}
+use Rattle.calls.specs.Locality.{ends}
 
 -- one look of the search: no record is left, the record is blank, it is unsound, or the rest decides
 module _ (w : Config) (records : List ℕ) (seq left : ℕ) where
@@ -59,35 +61,29 @@ search-found w records seq (suc left) k e =
     go below false h true rest = let r = below rest in (omega (arith, r .0), r .1)
     go below false h false wrong = absurd (refused-not-done 21 k wrong)
 
--- it is no lower than where the search began
-search-from : (w : Config) (records : List ℕ) (seq left k : ℕ) → search w records seq left ≡ done k → seq ≤ k
+-- the search depends on our records up to one at which it ends,
+pub search-agrees : (w : Config) (records others : List ℕ) (seq left last : ℕ) → seq ≤ last → last < seq + left
+    → ends w (recordAt w (w .own) last records) ≡ true
+    → ((i : ℕ) → i ≤ last → recordAt w (w .own) i records ≡ recordAt w (w .own) i others)
+    → search w records seq left ≡ search w others seq left
 unfolding search
-search-from w records seq zero k e = absurd (refused-not-done 25 k e)
-search-from w records seq (suc left) k e =
-    go (search-from w records (suc seq) left k) (blank (recordAt w (w .own) seq records)) (wellFormed w (w .own) (recordAt w (w .own) seq records)) e
+search-agrees w records others seq zero last from to end same = absurd (omega arith)
+search-agrees w records others seq (suc left) last from to end same =
+    rw (← same seq from)
+    (go (λ more. search-agrees w records others (suc seq) left last more (omega arith) end same) (blank (recordAt w (w .own) seq records)) refl
+    (wellFormed w (w .own) (recordAt w (w .own) seq records)) refl)
   where
-    go : (search w records (suc seq) left ≡ done k → suc seq ≤ k) → (b c : Bool)
-        → cond b (done seq) (cond c (search w records (suc seq) left) (refused 21)) ≡ done k → seq ≤ k
-    go below true c same = let found : seq ≡ k = cc in omega arith
-    go below false true rest = omega (arith, below rest)
-    go below false false wrong = absurd (refused-not-done 21 k wrong)
+    -- a record that does not end the search is not the last
+    further : blank (recordAt w (w .own) seq records) ≡ false → wellFormed w (w .own) (recordAt w (w .own) seq records) ≡ true → suc seq ≤ last
+    further b f =
+        lt-of-le-ne from (λ e. true≢false (sym (subst (λ (i : ℕ). ends w (recordAt w (w .own) i records) ≡ true) (sym e) end) ∙ rw (b, f)))
 
--- the search depends on our records up to the one found,
-pub search-agrees : (w : Config) (records others : List ℕ) (seq left k : ℕ) → search w records seq left ≡ done k
-    → ((i : ℕ) → i ≤ k → recordAt w (w .own) i records ≡ recordAt w (w .own) i others) → search w others seq left ≡ done k
-unfolding search
-search-agrees w records others seq zero k e same = absurd (refused-not-done 25 k e)
-search-agrees w records others seq (suc left) k e same =
-    rw (← same seq (search-from w records seq (suc left) k e))
-    (go (λ f. search-agrees w records others (suc seq) left k f same) (blank (recordAt w (w .own) seq records))
-    (wellFormed w (w .own) (recordAt w (w .own) seq records)) e)
-  where
-    go : (search w records (suc seq) left ≡ done k → search w others (suc seq) left ≡ done k) → (b c : Bool)
-        → cond b (done seq) (cond c (search w records (suc seq) left) (refused 21)) ≡ done k
-        → cond b (done seq) (cond c (search w others (suc seq) left) (refused 21)) ≡ done k
-    go below true c found = found
-    go below false true rest = below rest
-    go below false false wrong = wrong
+    go : (suc seq ≤ last → search w records (suc seq) left ≡ search w others (suc seq) left)
+        → (b : Bool) → blank (recordAt w (w .own) seq records) ≡ b → (f : Bool) → wellFormed w (w .own) (recordAt w (w .own) seq records) ≡ f
+        → cond b (done seq) (cond f (search w records (suc seq) left) (refused 21)) ≡ cond b (done seq) (cond f (search w others (suc seq) left) (refused 21))
+    go below true b f k = refl
+    go below false b true k = below (further b k)
+    go below false b false k = refl
 
 -- and on no record but ours
 pub search-own : (w : Config) (records others : List ℕ) (seq left : ℕ) → seq + left ≤ slots

@@ -9,3 +9,4 @@ pub mod Settled
 pub mod Algorithm
 pub mod Locality
 pub mod Unique
+pub mod Kept

@@ -4,7 +4,7 @@
 use mathlib.Core.Path.{_≡_, refl, sym, ap, _∙_}
 use mathlib.Core.Bool.{true, not}
 use mathlib.Core.List.{List, [], _∷_}
-use Prim.Native.Nat.{ℕ, _+_, _<_}
+use Prim.Native.Nat.{ℕ, _+_, _<_, zero-le}
 use lib.Dec.{eqb, lit≤}
 use lib.ListN.{length, getD, replicate}
 use Rattle.octets.specs.Octets.{part}
@@ -22,7 +22,7 @@ use Rattle.record.specs.Record.{image, recordIn, wellFormed, payloadAt}
 use Rattle.record.proofs.Image.{image-length}
 use Rattle.calls.specs.Records.{recordAt, stored}
 use Rattle.calls.specs.Open.{openReasons, opened}
-use Rattle.calls.specs.Broadcast.{search, broadcastReasons, broadcast, broadcastRecords, broadcastOut}
+use Rattle.calls.specs.Broadcast.{broadcastReasons, broadcast, broadcastRecords, broadcastOut}
 use Rattle.calls.specs.Receive.{receiveReasons, receive, receiveRecords, receiveOut}
 use Rattle.calls.specs.Delivered.{deliveredReasons, delivered, deliveredPart}
 use Rattle.calls.specs.Locality.{OnlyRecord, BroadcastChanges, ReceiveChanges, OpenDepends, ReceiveDepends, BroadcastDepends, BroadcastOwn, DeliveredDepends}
@@ -64,7 +64,7 @@ receive-changes w bundle records out = go (receive w bundle records out) refl (r
         absurd (refused-not-done number turn (sym (receive-unread w bundle records out number f) ∙ e))
     go (done turn) e (done h) f =
         let ok = read-says w bundle h f in
-        let (room, long, taken) = receive-done w bundle records out h f turn e in
+        let (room, long, taken, sound) = receive-done w bundle records out h f turn e in
         let (some, same) = update-payload (w .own) (quorum w) (h .signers) (payload w bundle) (recordIn (recordAt w (h .sender) (h .seq) records)) turn taken in
         one-stored w records (image (turn .after)) (receiveRecords w bundle records out) (headerOf bundle .sender) (headerOf bundle .seq) (ok .configured) long
         (rw (ok .fields) (ok .sender-known)) (rw (ok .fields) (ok .slot)) (image-length (turn .after) (λ _. ap length same ∙ ok .bundled .whole))
@@ -123,17 +123,13 @@ broadcast-own w content records others out other l o same =
 
 pub broadcast-depends : BroadcastDepends
 unfolding broadcast broadcastOut
-broadcast-depends w content records others out other seq l o same e =
-    let again = go (checked (broadcastReasons w content records out)) (ap checked (sym (reasons-same w content records others out other l o))) e in
-    (again, rw (e, again))
-  where
-    go : (c : Outcome Unit) → checked (broadcastReasons w content others other) ≡ c → (c and-then λ _. search w records 0 slots) ≡ done seq
-        → (checked (broadcastReasons w content others other) and-then λ _. search w others 0 slots) ≡ done seq
-    go (refused number) h f = absurd (refused-not-done number seq f)
-    go (done first) h f = rw h (search-agrees w records others 0 slots seq f same)
+broadcast-depends w content records others out other last l o below end same =
+    let agrees : broadcast w content records out ≡ broadcast w content others other =
+    rw (reasons-same w content records others out other l o, search-agrees w records others 0 slots last zero-le below end same) in
+    (agrees, λ seq e. rw (e, sym agrees ∙ e))
 
 -- the delivered payload is a part of the record
-shown-part : (w : Config) (sender seq : ℕ) (records : List ℕ)
+pub shown-part : (w : Config) (sender seq : ℕ) (records : List ℕ)
     → part (place w sender seq + payloadAt) payloadSize records ≡ part payloadAt payloadSize (recordAt w sender seq records)
 unfolding recordAt
 shown-part w sender seq records = sym (part-part payloadAt payloadSize (place w sender seq) recordSize records (lit≤ tt))

@@ -201,3 +201,9 @@ module _ (w : Config) (sender seq : ℕ) (records : List ℕ) where
         in-range w sender seq (ltb-true _ _ (not-false _ (clear .1 .0))) (ltb-true _ _ (not-false _ (clear .1 .1 .0))),
         eqb-true _ _ (not-false _ (clear .1 .1 .1 .0)),
       )
+
+  -- and it is delivered
+  pub delivered-record : (start : ℕ) → delivered w sender seq records ≡ done start → isDelivered (recordIn (recordAt w sender seq records)) ≡ true
+  unfolding delivered deliveredReasons
+  delivered-record start e =
+      not-false _ (done-clear (deliveredReasons w sender seq records) (place w sender seq + payloadAt) start e .0 .1 .1 .1 .1 .1 .0)

@@ -51,3 +51,8 @@ stored-part xs ys bytes i h e =
     let whole = eq-eqb (length (part i recordSize xs)) recordSize (length-part xs i recordSize h) in
     let new : ys ≡ bytes = e ∙ rw (k, whole) in
     rw (new, k, drop-drop recordSize i xs)
+
+-- and back
+pub range-says : (w : Config) (sender seq : ℕ) → inRange w sender seq ≡ true → (sender < w .n) × (seq < slots)
+unfolding inRange
+range-says w sender seq r = let (s, k) = and-eq-true-iff _ _ .0 r in (ltb-true sender (w .n) s, ltb-true seq slots k)

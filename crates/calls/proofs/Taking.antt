@@ -56,10 +56,10 @@ read-says w bundle h e =
       content = last;
     }
 
-lengths : (w : Config) (bundle records out : List ℕ) (h : Header) → Clear (receiveReasons w bundle records out h)
-    → (length out ≡ size) × (length records ≡ recordsSize w)
+receive-clear : (w : Config) (bundle records out : List ℕ) (h : Header) → Clear (receiveReasons w bundle records out h)
+    → (length out ≡ size) × (length records ≡ recordsSize w) × (wellFormed w (h .sender) (recordAt w (h .sender) (h .seq) records) ≡ true)
 unfolding receiveReasons
-lengths w bundle records out h c = (eqb-true _ _ (not-false _ (c .0)), eqb-true _ _ (not-false _ (c .1 .0)))
+receive-clear w bundle records out h c = (eqb-true _ _ (not-false _ (c .0)), eqb-true _ _ (not-false _ (c .1 .0)), not-false _ (c .1 .1 .0))
 
 module _ (w : Config) (bundle records out : List ℕ) where
   module _ (h : Header) (e : read w bundle ≡ done h) where
@@ -71,10 +71,11 @@ module _ (w : Config) (bundle records out : List ℕ) where
         receive-updated w bundle records out h e room size (ap (wellFormed w (h .sender)) held ∙ sound)
         ∙ ap (update (w .own) (quorum w) (h .signers) (payload w bundle)) (ap recordIn held ∙ back)
 
-    -- a bundle that is taken found 32 outgoing bytes, a buffer of the right size, and some record
+    -- a bundle that is taken found 32 outgoing bytes, a buffer of the right size, and a record that the step goes on from, and that is sound
     pub receive-done : (turn : Turn) → receive w bundle records out ≡ done turn
         → (length out ≡ size) × (length records ≡ recordsSize w)
         × (update (w .own) (quorum w) (h .signers) (payload w bundle) (recordIn (recordAt w (h .sender) (h .seq) records)) ≡ done turn)
+        × (wellFormed w (h .sender) (recordAt w (h .sender) (h .seq) records) ≡ true)
     unfolding receive
     receive-done turn f = go (checked (receiveReasons w bundle records out h)) refl (rw e at f)
       where
@@ -82,6 +83,7 @@ module _ (w : Config) (bundle records out : List ℕ) where
             → (o and-then λ _. update (w .own) (quorum w) (h .signers) (payload w bundle) (recordIn (recordAt w (h .sender) (h .seq) records))) ≡ done turn
             → (length out ≡ size) × (length records ≡ recordsSize w)
             × (update (w .own) (quorum w) (h .signers) (payload w bundle) (recordIn (recordAt w (h .sender) (h .seq) records)) ≡ done turn)
+            × (wellFormed w (h .sender) (recordAt w (h .sender) (h .seq) records) ≡ true)
         go (refused number) c t = absurd (refused-not-done number turn t)
         go (done first) c t =
-            let k = lengths w bundle records out h (done-clear (receiveReasons w bundle records out h) tt first c .0) in (k .0, k .1, t)
+            let k = receive-clear w bundle records out h (done-clear (receiveReasons w bundle records out h) tt first c .0) in (k .0, k .1, t, k .2)

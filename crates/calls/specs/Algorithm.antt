@@ -22,23 +22,23 @@ use Rattle.calls.specs.Broadcast.{announcedHeader, broadcast, broadcastR
 use Rattle.calls.specs.Receive.{recordBundle, receive, receiveRecords, receiveOut}
 
 -- what a node keeps of a slot
-abbrev pub kept : Config → ℕ → ℕ → List ℕ → Record
-kept w sender seq records = recordIn (recordAt w sender seq records)
+abbrev pub recordOf : Config → ℕ → ℕ → List ℕ → Record
+recordOf w sender seq records = recordIn (recordAt w sender seq records)
 
 -- Opening starts every slot as the algorithm starts: nothing saved, signed or delivered.
 abbrev pub OpenStarts : Type 0
 OpenStarts =
     (w : Config) (records : List ℕ) (sender seq : ℕ) → good w ≡ true → length records ≡ recordsSize w → sender < w .n → seq < slots
-    → kept w sender seq (openRecords w records) ≡ Empty
+    → recordOf w sender seq (openRecords w records) ≡ Empty
 
 -- An announcement is answered in a slot of ours of which we kept nothing. The record stored is the algorithm's state after mbrb_broadcast, and
 -- the bytes sent are the bundle that it broadcasts.
 abbrev pub BroadcastFollows : Type 0
 BroadcastFollows =
     (w : Config) (content records out : List ℕ) (seq : ℕ) → broadcast w content records out ≡ done seq
-    → (kept w (w .own) seq records ≡ Empty)
+    → (recordOf w (w .own) seq records ≡ Empty)
     × algorithm.SameState
-    (algorithm.stateOf (kept w (w .own) seq (broadcastRecords w content records out)))
+    (algorithm.stateOf (recordOf w (w .own) seq (broadcastRecords w content records out)))
     (algorithm.onBroadcast (w .own) content (algorithm.stateOf Empty) .state)
     × (algorithm.onBroadcast (w .own) content (algorithm.stateOf Empty) .effects
     ≡ algorithm.broadcast (announcedHeader w seq .signers) content ∷ [])
@@ -51,8 +51,8 @@ ReceiveFollows =
     (w : Config) (bundle records out : List ℕ) (h : Header)
     → read w bundle ≡ done h → length out ≡ size → length records ≡ recordsSize w
     → wellFormed w (h .sender) (recordAt w (h .sender) (h .seq) records) ≡ true
-    → algorithm.Follows (w .n) (w .t) (w .own) (h .sender) (h .signers) (payload w bundle) (kept w (h .sender) (h .seq) records)
+    → algorithm.Follows (w .n) (w .t) (w .own) (h .sender) (h .signers) (payload w bundle) (recordOf w (h .sender) (h .seq) records)
     (receive w bundle records out)
     × ((turn : Turn) → receive w bundle records out ≡ done turn
-    → (kept w (h .sender) (h .seq) (receiveRecords w bundle records out) ≡ turn .after)
+    → (recordOf w (h .sender) (h .seq) (receiveRecords w bundle records out) ≡ turn .after)
     × (receiveOut w bundle records out ≡ cond (sends (turn .answer)) (recordBundle w h (turn .after)) out))

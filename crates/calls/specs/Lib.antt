@@ -7,3 +7,4 @@ pub mod Delivered
 pub mod Settled
 pub mod Locality
 pub mod Algorithm
+pub mod Kept

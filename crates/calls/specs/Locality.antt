@@ -4,15 +4,17 @@
 -- Assumes nothing.
 use mathlib.Core.Path.{_≡_}
 use mathlib.Core.Logic.{_⊎_}
-use mathlib.Core.Bool.{true}
+use mathlib.Core.Bool.{Bool, true, not, _||_}
 use mathlib.Core.List.{List}
 use Prim.Native.Nat.{ℕ, _+_, _≤_, _<_}
 use lib.ListN.{length, getD}
+use Rattle.octets.specs.Octets.{blank}
 use Rattle.refusal.specs.Outcome.{done, plain}
 use Rattle.config.specs.declared.Config.{Config}
 use Rattle.config.specs.Config.{place, recordSize, slots}
 use Rattle.bundle.specs.Bundle.{headerOf}
 use Rattle.protocol.specs.Slot.{sends, Turn}
+use Rattle.record.specs.Record.{wellFormed}
 use Rattle.calls.specs.Records.{recordAt}
 use Rattle.calls.specs.Open.{opened}
 use Rattle.calls.specs.Broadcast.{broadcast, broadcastRecords, broadcastOut}
@@ -54,16 +56,21 @@ ReceiveDepends =
     × ((turn : Turn) → receive w bundle records out ≡ done turn → sends (turn .answer) ≡ true
     → receiveOut w bundle records out ≡ receiveOut w bundle others other)
 
--- Announcing: besides, on our records up to the one used
+-- a record at which the search for a number ends: it is all zero, or not sound
+abbrev pub ends : Config → List ℕ → Bool
+ends w bytes = blank bytes || not (wellFormed w (w .own) bytes)
+
+-- Announcing: besides, our records up to the first at which the search ends, whether it is used or refused
 abbrev pub BroadcastDepends : Type 0
 BroadcastDepends =
-    (w : Config) (content records others out other : List ℕ) (seq : ℕ)
+    (w : Config) (content records others out other : List ℕ) (last : ℕ)
     → length records ≡ length others → length out ≡ length other
-    → ((k : ℕ) → k ≤ seq → recordAt w (w .own) k records ≡ recordAt w (w .own) k others)
-    → broadcast w content records out ≡ done seq
-    → (broadcast w content others other ≡ done seq) × (broadcastOut w content records out ≡ broadcastOut w content others other)
+    → last < slots → ends w (recordAt w (w .own) last records) ≡ true
+    → ((k : ℕ) → k ≤ last → recordAt w (w .own) k records ≡ recordAt w (w .own) k others)
+    → (broadcast w content records out ≡ broadcast w content others other)
+    × ((seq : ℕ) → broadcast w content records out ≡ done seq → broadcastOut w content records out ≡ broadcastOut w content others other)
 
--- and, where it is refused, on our records and no others
+-- and where it ends at none, our sixteen records and no others
 abbrev pub BroadcastOwn : Type 0
 BroadcastOwn =
     (w : Config) (content records others out other : List ℕ)

@@ -176,8 +176,8 @@ pub fn delivered(config: Config, sender: u8, seq: u8, records: &[u8]) -> &[u8]
 {
     match check_delivered(config, sender, seq, records) {
         Verdict::Done => {
-            let end = config.place(sender, seq) + config::RECORD_SIZE;
-            &records[end - bundle::PAYLOAD_SIZE..end]
+            let start = config.place(sender, seq) + record::PAYLOAD_AT;
+            &records[start..start + bundle::PAYLOAD_SIZE]
         }
         Verdict::Refused(_) => &records[0..0],
     }

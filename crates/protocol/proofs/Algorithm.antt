@@ -14,7 +14,7 @@ use Rattle.octets.proofs.Same.{same-says, same-self, same-flip}
 use Rattle.signers.specs.Signers.{member, insert, union, size}
 use Rattle.signers.proofs.Members.{nobody}
 use Rattle.refusal.specs.Outcome.{unless}
-use Rattle.protocol.specs.Slot.{Record, Empty, Held, Delivered, payloadOf, isEmpty, Turn, kept, signed, delivered, announcedBy, updateReasons, gathered, updated, update}
+use Rattle.protocol.specs.Slot.{Record, Empty, Held, Delivered, isEmpty, Turn, kept, signed, delivered, announcedBy, updateReasons, gathered, updated, update}
 use Rattle.protocol.specs.Algorithm.{State, Run, save, sign, bundleEffect, onBroadcast, line9, line5, andLine9, onBundle, keepOne, sendOnce, stateOf, effectsOf, SameState, BroadcastFollows, Follows, UpdateFollows}
 
 -- ---- words and messages

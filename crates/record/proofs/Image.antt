@@ -8,7 +8,7 @@ use Prim.Native.Nat.{ℕ, _≤_, _<_, _^_}
 use native.Mathlib.Nat.{lt-of-lt-of-le}
 use native.Mathlib.Omega.{arith}
 use lib.Dec.{ltb, eqb}
-use lib.ListN.{length}
+use lib.ListN.{length, replicate}
 use lib.Pow.{pow-pos, pow-mono}
 use lib.Seq.{take-all}
 use borrow.Author.Tests.{leb-true, le-leb}
@@ -71,6 +71,11 @@ unfolding image
 image-length Empty h = refl
 image-length (Held signers payload) h = fields-length 1 signers payload (h refl)
 image-length (Delivered signers payload) h = fields-length 2 signers payload (h refl)
+
+-- zeros are the bytes of an empty record
+pub empty-image : replicate recordSize 0 ≡ image Empty
+unfolding image
+empty-image = refl
 
 pub blank-image : (r : Record) → blank (image r) ≡ isEmpty r
 unfolding image fields same

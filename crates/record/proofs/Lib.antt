@@ -2,3 +2,4 @@
 pub mod Words
 pub mod Updated
 pub mod Image
+pub mod Unique

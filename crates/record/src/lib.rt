@@ -1,7 +1,7 @@
 // What a node keeps of a slot, as the 32 bytes of a record and as four words.
 //
-// A record is loaded by value, a bundle is taken on the value, and the result is stored again: no other
-// function looks at a record's bytes.
+// A record is loaded by value, a bundle is taken on the value, and the result is stored again. Beside these
+// only showing looks at a record's bytes, and only at its payload.
 use config::Config;
 use refusal::Refusal;
 ghost use mathlib.Core.Path.{_≡_};
@@ -18,6 +18,9 @@ ghost use Rattle.record.specs.Record.{bytes as bytesIn, loaded, wellForm
 pub const HELD: u64 = 0x100_0000_0000_0000;
 
 pub const DELIVERED: u64 = 0x200_0000_0000_0000;
+
+// Where in a record its payload starts.
+pub const PAYLOAD_AT: usize = 16;
 
 pub struct Record {
     // the state's byte and seven that are zero
@@ -80,7 +83,8 @@ impl Record {
         self.low == 0
     }
 
-    // Whether the record is one that this node could have written for a slot of the sender.
+    // Whether the record is sound, as document 01 says, for a slot of the sender at this node. The calls
+    // refuse any other.
     pub fn well_formed(self, config: Config, sender: u8) -> bool
         ensures { λ r. ⌜ r ≡ wellFormed config sender (bytesIn self) ⌝ }
     {
@@ -102,7 +106,7 @@ impl Record {
         false
     }
 
-    // Whether the slot is delivered.
+    // Whether the slot is delivered, of a record that is sound.
     pub fn is_delivered(self) -> bool
         ensures { λ r. ⌜ r ≡ isDelivered (recordIn (bytesIn self)) ⌝ }
     {

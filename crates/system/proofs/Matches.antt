@@ -24,7 +24,7 @@ use Rattle.protocol.specs.Slot.{Record, Empty, Turn, signersOf, payloadOf, isEm
 use Rattle.protocol.specs.OneSlot.{Act, announce, hand, play, next, delivering, deliveringThis, sending, announcing, handed}
 use Rattle.protocol.proofs.Sound.{Bundled, Sound, sound-bundled, announced-sound, update-payload, update-sound}
 use Rattle.record.specs.Record.{image, wellFormed}
-use Rattle.record.proofs.Image.{image-length, blank-image, image-wellFormed, recordIn-image}
+use Rattle.record.proofs.Image.{image-length, empty-image, blank-image, image-wellFormed, recordIn-image}
 use Rattle.calls.specs.Records.{recordAt, stored}
 use Rattle.calls.specs.Open.{openReasons, opened, openRecords}
 use Rattle.calls.specs.Broadcast.{broadcast, broadcastRecords, broadcastOut}
@@ -86,10 +86,6 @@ open-zeros w records g size =
     ap (λ (o : Outcome (List ℕ)). after o (λ zeros. zeros) records)
     (clear-done (openReasons w records) (replicate (length records) 0) (ap not g, (ap not (eq-eqb (length records) (recordsSize w) size), tt)))
     ∙ ap (λ (k : ℕ). replicate k 0) size
-
-empty-image : replicate recordSize 0 ≡ image Empty
-unfolding image
-empty-image = refl
 
 -- an announcement on an empty record, and what it leaves and sends
 announced-length : (u : ℕ) (content : List ℕ) → length content ≡ payloadSize → length (image (announcedBy u content)) ≡ recordSize

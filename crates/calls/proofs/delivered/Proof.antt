@@ -8,6 +8,7 @@ use Rattle.refusal.specs.Outcome.{done}
 use Rattle.refusal.specs.Refusal.{verdictOf}
 use Rattle.refusal.proofs.Reasons.{plain-done, plain-refused}
 use Rattle.config.specs.Config.{place, recordSize}
+use Rattle.record.specs.Record.{payloadAt}
 use Rattle.calls.specs.Delivered.{delivered, deliveredPart, deliveredPlace}
 use Rattle.calls.proofs.Room.{place-room, records-fit}
 use Rattle.calls.proofs.Refusals.{delivered-says}
@@ -23,7 +24,7 @@ abbrev given : tie.After-enum-told → tie.Start
 given c = c .before .before .before .before
 
 shown : (c : tie.After-enum-told)
-    → delivered (given c .args .config) (given c .args .sender) (given c .args .seq) (given c .args .records .now) ≡ done (place (given c .args .config) (given c .args .sender) (given c .args .seq) + 16)
+    → delivered (given c .args .config) (given c .args .sender) (given c .args .seq) (given c .args .records .now) ≡ done (place (given c .args .config) (given c .args .sender) (given c .args .seq) + payloadAt)
 unfolding delivered
 shown c = plain-done _ _ (sym (c .before .before .check-delivered .ensures) ∙ ap verdictOf (c .enum-told .given .1))
 
@@ -32,9 +33,9 @@ room c =
     let (configured, range, long) = delivered-says _ _ _ _ _ (shown (c .before)) in
     rw (c .place .ensures, long) (place-room _ _ _ configured range)
 
--- the end less 16 is the place and 16
-back : (c : tie.After-place) → c .place .result + 32 - 16 ≡ place (given (c .before) .args .config) (given (c .before) .args .sender) (given (c .before) .args .seq) + 16
-back c = omega (arith, c .place .ensures)
+-- the part starts at the payload's place
+from : (c : tie.After-place) → c .place .result + 16 ≡ place (given (c .before) .args .config) (given (c .before) .args .sender) (given (c .before) .args .seq) + payloadAt
+from c = omega (arith, c .place .ensures)
 
 -- ---- the needs
 
@@ -47,17 +48,20 @@ enum-told c = search needs
 place-requires : tie.Need-place-requires
 place-requires c κs = search needs
 
-add-end : tie.Need-add-end
-add-end c =
+add-start : tie.Need-add-start
+add-start c =
+    let (configured, range, long) = delivered-says _ _ _ _ _ (shown (c .before)) in
+    let fits = records-fit _ configured in
+    omega (arith, room c)
+
+add-result : tie.Need-add-result
+add-result c =
     let (configured, range, long) = delivered-says _ _ _ _ _ (shown (c .before)) in
     let fits = records-fit _ configured in
     omega (arith, room c)
 
 sub-result : tie.Need-sub-result
 sub-result c = search needs
-
-sub-result-2 : tie.Need-sub-result-2
-sub-result-2 c = search needs
 
 part-result-start : tie.Need-part-result-start
 part-result-start c = search needs
@@ -68,8 +72,8 @@ part-result-end c = omega (arith, room c)
 enum-told-2 : tie.Need-enum-told-2
 enum-told-2 c = search needs
 
-sub-result-3 : tie.Need-sub-result-3
-sub-result-3 c = search needs
+sub-result-2 : tie.Need-sub-result-2
+sub-result-2 c = search needs
 
 part-result-start-2 : tie.Need-part-result-start-2
 part-result-start-2 c = search needs
@@ -80,8 +84,8 @@ part-result-end-2 c = search needs
 returns : tie.Need-returns
 unfolding deliveredPart deliveredPlace
 returns c =
-    let sixteen : c .before .place .result + 32 - (c .before .place .result + 32 - 16) ≡ 16 = omega arith in
-    rw (shown (c .before .before)) (ap₂ (λ (k i : ℕ). take k (drop i (c .before .before .before .before .before .before .args .records .now))) sixteen (back (c .before)), ap (λ (k : ℕ). further k (c .before .before .before .before .before .before .args .records .ptr)) (back (c .before)))
+    let sixteen : c .before .place .result + 16 + 16 - (c .before .place .result + 16) ≡ 16 = omega arith in
+    rw (shown (c .before .before)) (ap₂ (λ (k i : ℕ). take k (drop i (c .before .before .before .before .before .before .args .records .now))) sixteen (from (c .before)), ap (λ (k : ℕ). further k (c .before .before .before .before .before .before .args .records .ptr)) (from (c .before)))
 
 returns-2 : tie.Need-returns-2
 unfolding deliveredPart deliveredPlace
@@ -96,13 +100,13 @@ delivered-spec =
     check-delivered-requires
     enum-told
     place-requires
-    add-end
+    add-start
+    add-result
     sub-result
-    sub-result-2
     part-result-start
     part-result-end
     enum-told-2
-    sub-result-3
+    sub-result-2
     part-result-start-2
     part-result-end-2
     returns
