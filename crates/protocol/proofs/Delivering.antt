@@ -17,7 +17,7 @@ use Rattle.signers.proofs.Members.{insert-own, within-lt, size-count}
 use Rattle.refusal.specs.Outcome.{Outcome, refused, done, after, unless}
 use Rattle.protocol.specs.Slot.{Record, Empty, Held, Delivered, signersOf, payloadOf, isEmpty, Turn, sends, announcedBy}
 use Rattle.protocol.specs.Trace.{Trace}
-use Rattle.protocol.specs.OneSlot.{Act, announce, hand, play, next, sendingThis, signing, deliveringThis, announcing, handed, record-of, some, correct, Quorum, Lawful, NearlyAll, Reached, Delivery}
+use Rattle.protocol.specs.OneSlot.{Act, announce, hand, play, next, sendingThis, signing, deliveringThis, announcing, announcingThis, handed, record-of, some, correct, Quorum, Lawful, NearlyAll, Reached, Delivery}
 use Rattle.protocol.proofs.Traces.{ever-finds, ever-mono}
 use Rattle.protocol.proofs.Steps.{sendsThis, signsThis}
 use Rattle.protocol.proofs.Told.{delivered-record, record-delivered}
@@ -81,12 +81,12 @@ module _ (q : ℕ) (trace : Trace Act) (u : ℕ) where
               (signersOf (turn .after), rw (s, eq-eqb (signersOf (turn .after)) (signersOf (turn .after)) refl) p, m)
 
   -- a node that announced has signed
-  announced-signed : (payload : List ℕ) → u < 64 → some q (announcing q payload) trace u ≡ true → some q (signing q payload) trace u ≡ true
-  unfolding announcing signing play unless announcedBy
+  announced-signed : (payload : List ℕ) → u < 64 → some q (announcingThis q payload) trace u ≡ true → some q (signing q payload) trace u ≡ true
+  unfolding announcing announcingThis signing play unless announcedBy
   announced-signed payload room =
-      ever-mono (λ v. Empty) (next q) (announcing q payload) (signing q payload) u each trace
+      ever-mono (λ v. Empty) (next q) (announcingThis q payload) (signing q payload) u each trace
     where
-      each : (act : Act) (r : Record) → announcing q payload u act r ≡ true → signing q payload u act r ≡ true
+      each : (act : Act) (r : Record) → announcingThis q payload u act r ≡ true → signing q payload u act r ≡ true
       each (announce first) Empty k = rw (k, insert-own 0 u room)
       each (announce first) (Held signers body) k = absurd (false≢true k)
       each (announce first) (Delivered signers body) k = absurd (false≢true k)

@@ -18,7 +18,7 @@ use Rattle.signers.proofs.Members.{nobody, insert-own, insert-keeps, union-left
 use Rattle.refusal.specs.Outcome.{Outcome, refused, after}
 use Rattle.protocol.specs.Slot.{Record, Empty, Held, Delivered, Turn}
 use Rattle.protocol.specs.Trace.{Trace, _then_calls_, ever}
-use Rattle.protocol.specs.OneSlot.{Act, hand, next, signing, announcing, record-of, some, correct, Allowed, Lawful}
+use Rattle.protocol.specs.OneSlot.{Act, hand, next, signing, announcing, announcingThis, record-of, some, correct, Allowed, Lawful}
 use Rattle.protocol.proofs.Traces.{ever-grows}
 use Rattle.protocol.proofs.Turns.{Turned, refuses, announces, signs, delivers-first, joins, completes, replaces}
 use Rattle.protocol.proofs.Steps.{or-cases, signsThis, Seen, by-steps}
@@ -45,7 +45,7 @@ module _ (n q sender : ℕ) (faulty : NodeSet) where
   -- the node has signed no other payload, and the sender has announced this one
   pub record Voice (trace : Trace Act) (u : ℕ) (payload : List ℕ) : Type 0 where
     pub only : (other : List ℕ) → some q (signing q other) trace u ≡ true → other ≡ payload
-    pub announced : u ≡ sender → some q (announcing q payload) trace u ≡ true
+    pub announced : u ≡ sender → some q (announcingThis q payload) trace u ≡ true
 
   pub record KnownHeld (trace : Trace Act) (u signers : ℕ) (payload : List ℕ) : Type 0 where
     pub backed : Backed trace signers payload
@@ -115,7 +115,7 @@ module _ (n q sender : ℕ) (faulty : NodeSet) where
         (this : (other : List ℕ) → after o (signsThis other u) false ≡ true → other ≡ payload) where
       -- a node that signs this payload now, or nothing
       voice-on : ((other : List ℕ) → some q (signing q other) earlier u ≡ true → other ≡ payload)
-          → (u ≡ sender → some q (announcing q payload) (earlier then caller calls act) u ≡ true)
+          → (u ≡ sender → some q (announcingThis q payload) (earlier then caller calls act) u ≡ true)
           → Voice (earlier then caller calls act) u payload
       voice-on before announced =
           record {
@@ -130,7 +130,7 @@ module _ (n q sender : ℕ) (faulty : NodeSet) where
       -- which it may have signed before
       voice-again : Voice earlier u payload → Voice (earlier then caller calls act) u payload
       voice-again before =
-          voice-on (before .only) (λ s. ever-grows (λ node. Empty) (next q) (announcing q payload) earlier u caller act (before .announced s))
+          voice-on (before .only) (λ s. ever-grows (λ node. Empty) (next q) (announcingThis q payload) earlier u caller act (before .announced s))
 
     -- a turn that is refused
     known-still : (u : ℕ) (r : Record) (number : ℕ) → Seen q earlier u caller act r (refused number)
@@ -163,7 +163,7 @@ module _ (n q sender : ℕ) (faulty : NodeSet) where
       → Turned q u caller act r o → Seen q earlier u caller act r o
       → Allowed n q sender faulty earlier caller act → u < n
       → Known earlier u r → Known (earlier then caller calls act) u (after o (λ turn. turn .after) r)
-  unfolding announcing
+  unfolding announcing announcingThis
   known-step fits earlier u caller act r o (refuses {number = number} why) seen a below before = known-still earlier caller act u r number seen before
   known-step fits earlier u caller act r o (announces {payload = payload} own) seen a below before =
       let room : u < 64 = omega arith in
@@ -252,10 +252,10 @@ module _ (n q sender : ℕ) (faulty : NodeSet) where
 
     -- a correct sender has announced what it signed
     pub signed-announced : (payload : List ℕ) → correct n faulty sender ≡ true
-        → some q (signing q payload) trace sender ≡ true → some q (announcing q payload) trace sender ≡ true
+        → some q (signing q payload) trace sender ≡ true → some q (announcingThis q payload) trace sender ≡ true
     signed-announced payload c e = go (record-of q trace sender) (known fits trace sender lawful c)
       where
-        go : (r : Record) → Known trace sender r → some q (announcing q payload) trace sender ≡ true
+        go : (r : Record) → Known trace sender r → some q (announcingThis q payload) trace sender ≡ true
         go Empty k = absurd (k payload e)
         go (Held signers first) k = rw (k .voice .only payload e) (k .voice .announced refl)
         go (Delivered signers first) k = rw (k .voice .only payload e) (k .voice .announced refl)

@@ -4,17 +4,20 @@ use mathlib.Core.Path.{_≡_, refl, sym, ap, _∙_, subst}
 use mathlib.Core.Logic.{_⊎_, inl, inr}
 use mathlib.Core.Bool.{Bool, true, false, _&&_, _||_, false≢true, and-eq-true-iff}
 use mathlib.Core.List.{List}
-use Prim.Native.Nat.{ℕ, _+_}
+use Prim.Native.Nat.{ℕ, _+_, _≤_}
+use native.Mathlib.Nat.{le-of-eq}
+use native.Mathlib.Omega.{arith}
 use lib.Dec.{eqb}
 use borrow.Author.Tests.{eqb-true, eqb-false}
 use Rattle.octets.specs.Octets.{same}
 use Rattle.octets.proofs.Same.{same-says}
 use Rattle.signers.specs.Sets.{one}
 use Rattle.signers.specs.Signers.{member}
-use Rattle.refusal.specs.Outcome.{Outcome, refused, after}
-use Rattle.protocol.specs.Slot.{Record, Empty, signersOf, payloadOf, Turn, sends, delivers}
+use Rattle.signers.proofs.Counting.{one-mono}
+use Rattle.refusal.specs.Outcome.{Outcome, refused, unless, after}
+use Rattle.protocol.specs.Slot.{Record, Empty, Held, Delivered, isEmpty, signersOf, payloadOf, Turn, sends, delivers}
 use Rattle.protocol.specs.Trace.{Trace, start, _then_calls_, state}
-use Rattle.protocol.specs.OneSlot.{Act, announce, hand, play, next, sending, sendingThis, signing, delivering, deliveringThis, announcing, handed, record-of, some, number-of}
+use Rattle.protocol.specs.OneSlot.{Act, announce, hand, play, next, sending, sendingThis, signing, delivering, deliveringThis, announcing, announcingThis, handed, record-of, some, number-of}
 use Rattle.protocol.proofs.Traces.{state-own, state-other, ever-own, ever-other, times-own, times-other}
 use Rattle.protocol.proofs.Turns.{Turned, refuses, turned}
 
@@ -48,8 +51,10 @@ pub record Seen (q : ℕ) (earlier : Trace Act) (u caller : ℕ) (act : Act) (r 
       ≡ one (after o (λ turn. sends (turn .answer)) false) + number-of q (sending q) earlier u
   pub deliveries : number-of q (delivering q) (earlier then caller calls act) u
       ≡ one (after o (λ turn. delivers (turn .answer)) false) + number-of q (delivering q) earlier u
-  pub announced : (payload : List ℕ) → u ≡ caller → announcing q payload u act r ≡ true
-      → some q (announcing q payload) (earlier then caller calls act) u ≡ true
+  pub announcements : number-of q (announcing q) (earlier then caller calls act) u
+      ≤ one (after o (λ turn. isEmpty r) false) + number-of q (announcing q) earlier u
+  pub announced : (payload : List ℕ) → u ≡ caller → announcingThis q payload u act r ≡ true
+      → some q (announcingThis q payload) (earlier then caller calls act) u ≡ true
   pub heard : (signers : ℕ) (payload : List ℕ) → some q (handed q signers payload) (earlier then caller calls act) u ≡ true
       → ((u ≡ caller) × (act ≡ hand signers payload)) ⊎ (some q (handed q signers payload) earlier u ≡ true)
 
@@ -62,6 +67,14 @@ module _ (q : ℕ) (earlier : Trace Act) (u : ℕ) where
       let (a, b) = and-eq-true-iff (eqb given signers) (same first payload) .0 e in
       ap (λ (s : ℕ). hand s first) (eqb-true given signers a) ∙ ap (hand signers) (same-says first payload b)
 
+  -- a node that announces found an empty record, and is not refused
+  announcing-empty : (act : Act) (r : Record) → announcing q u act r ≡ true → after (play q u act r) (λ turn. isEmpty r) false ≡ true
+  unfolding announcing play unless
+  announcing-empty (announce payload) Empty e = refl
+  announcing-empty (announce payload) (Held signers body) e = e
+  announcing-empty (announce payload) (Delivered signers body) e = e
+  announcing-empty (hand signers payload) r e = absurd (false≢true e)
+
   -- the caller sees what it plays
   seen-own : (act : Act) → Seen q earlier u u act (record-of q earlier u) (play q u act (record-of q earlier u))
   unfolding sending sendingThis signing delivering deliveringThis
@@ -73,9 +86,12 @@ module _ (q : ℕ) (earlier : Trace Act) (u : ℕ) where
         delivered = λ payload. ever-own (λ node. Empty) (next q) (deliveringThis q payload) earlier u act;
         sendings = times-own (λ node. Empty) (next q) (sending q) earlier u act;
         deliveries = times-own (λ node. Empty) (next q) (delivering q) earlier u act;
+        announcements =
+            let few = one-mono _ _ (announcing-empty act (record-of q earlier u)) in
+            rw (times-own (λ node. Empty) (next q) (announcing q) earlier u act) (omega arith);
         announced = λ payload own e.
-            ever-own (λ node. Empty) (next q) (announcing q payload) earlier u act
-            ∙ ap (λ (b : Bool). b || some q (announcing q payload) earlier u) e;
+            ever-own (λ node. Empty) (next q) (announcingThis q payload) earlier u act
+            ∙ ap (λ (b : Bool). b || some q (announcingThis q payload) earlier u) e;
         heard = λ signers payload e.
             either signers payload (handed q signers payload u act (record-of q earlier u)) refl
             (sym (ever-own (λ node. Empty) (next q) (handed q signers payload) earlier u act) ∙ e);
@@ -97,6 +113,7 @@ module _ (q : ℕ) (earlier : Trace Act) (u : ℕ) where
         delivered = λ payload. ever-other (λ node. Empty) (next q) (deliveringThis q payload) earlier u v act e;
         sendings = times-other (λ node. Empty) (next q) (sending q) earlier u v act e;
         deliveries = times-other (λ node. Empty) (next q) (delivering q) earlier u v act e;
+        announcements = le-of-eq (times-other (λ node. Empty) (next q) (announcing q) earlier u v act e);
         announced = λ payload own k. absurd (eqb-false u v e own);
         heard = λ signers payload k. inr (sym (ever-other (λ node. Empty) (next q) (handed q signers payload) earlier u v act e) ∙ k);
       }

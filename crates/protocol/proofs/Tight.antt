@@ -16,7 +16,7 @@ use Rattle.signers.specs.Signers.{member, insert, within}
 use Rattle.refusal.specs.Outcome.{unless}
 use Rattle.protocol.specs.Slot.{announcedBy, updateReasons, gathered, updated, update}
 use Rattle.protocol.specs.Trace.{Trace, start, _then_calls_, each, state, ever}
-use Rattle.protocol.specs.OneSlot.{Act, announce, hand, play, next, signing, delivering, deliveringThis, announcing, handed, some}
+use Rattle.protocol.specs.OneSlot.{Act, announce, hand, play, next, signing, delivering, deliveringThis, announcing, announcingThis, handed, some}
 use Rattle.protocol.specs.Tight.{only, QuorumTight, ReachTight}
 use Rattle.protocol.proofs.Tested.{each-says, allowed-test, lawful-test, lawful-says, nearly-test, sent-test, reached-from, reached-test, reached-says}
 
@@ -73,7 +73,7 @@ missed =
 -- nobody has more than two of the three signers needed
 pub reach-tight : ReachTight
 unfolding missed lawful-test allowed-test nearly-test sent-test reached-from reached-test each ever state count play next announcedBy update updateReasons
-    unless gathered updated member insert within ones signing delivering deliveringThis announcing handed same
+    unless gathered updated member insert within ones signing delivering deliveringThis announcing announcingThis handed same
 reach-tight = (
   missed,
   record { fits = lit≤ tt; intersects = lit< tt; reachable = lit≤ tt },

@@ -1,8 +1,9 @@
 -- What a node's record says of what the node has sent and delivered: no delivery while it is empty or held, and one, of the payload that it has,
--- once it is delivered. So no node delivers twice, and none sends more than two bundles, whatever bundles come. Assumes nothing.
+-- once it is delivered; no announcement while it is empty. So no node delivers or announces twice, and none sends more than two bundles, whatever
+-- bundles come. Assumes nothing.
 use mathlib.Core.Path.{_≡_, refl, sym, ap, _∙_}
 use mathlib.Core.Logic.{_⊎_, inl, inr}
-use mathlib.Core.Bool.{true, false, true≢false}
+use mathlib.Core.Bool.{true, false, not, true≢false}
 use mathlib.Core.List.{List}
 use Prim.Native.Nat.{ℕ, _+_, _≤_}
 use native.Mathlib.Nat.{le-refl}
@@ -12,9 +13,9 @@ use Rattle.octets.specs.Octets.{same}
 use Rattle.octets.proofs.Same.{same-says, same-self}
 use Rattle.signers.specs.Sets.{one}
 use Rattle.refusal.specs.Outcome.{Outcome, refused, done, after}
-use Rattle.protocol.specs.Slot.{Record, Empty, Held, Delivered, Turn, sends, delivers, delivered}
+use Rattle.protocol.specs.Slot.{Record, Empty, Held, Delivered, isEmpty, Turn, sends, delivers, delivered}
 use Rattle.protocol.specs.Trace.{Trace, _then_calls_, ever, times}
-use Rattle.protocol.specs.OneSlot.{Act, sending, sendingThis, delivering, deliveringThis, record-of, some, number-of}
+use Rattle.protocol.specs.OneSlot.{Act, sending, sendingThis, delivering, deliveringThis, announcing, record-of, some, number-of}
 use Rattle.protocol.proofs.Turns.{Turned, refuses, announces, signs, delivers-first, joins, completes, replaces}
 use Rattle.protocol.proofs.Steps.{or-cases, deliversThis, Seen, by-steps}
 
@@ -108,6 +109,30 @@ pub told : (q : ℕ) (trace : Trace Act) (u : ℕ) → Told q trace u (record-of
 unfolding ever times
 told q = by-steps q (Told q) (λ u. record { none = λ payload. refl; deliveries = refl; sendings = le-refl 0 }) (told-step q)
 
+-- ---- announcing takes an empty record, and no turn leaves one
+
+-- a node has announced nothing while its record is empty, and at most once afterwards
+abbrev Announced : ℕ → Trace Act → ℕ → Record → Type 0
+Announced q trace u r = number-of q (announcing q) trace u ≤ one (not (isEmpty r))
+
+announced-step : (q : ℕ) (earlier : Trace Act) (u caller : ℕ) (act : Act) (r : Record) (o : Outcome Turn)
+    → Turned q u caller act r o → Seen q earlier u caller act r o
+    → Announced q earlier u r → Announced q (earlier then caller calls act) u (after o (λ turn. turn .after) r)
+announced-step q earlier u caller act r o (refuses why) seen before = omega (arith, seen .announcements, before)
+announced-step q earlier u caller act r o (announces own) seen before = omega (arith, seen .announcements, before)
+announced-step q earlier u caller act r o (signs absent few) seen before = omega (arith, seen .announcements, before)
+announced-step q earlier u caller act r o (delivers-first absent enough) seen before = omega (arith, seen .announcements, before)
+announced-step q earlier u caller act r o (joins few) seen before = omega (arith, seen .announcements, before)
+announced-step q earlier u caller act r o (completes enough) seen before = omega (arith, seen .announcements, before)
+announced-step q earlier u caller act r o (replaces other absent enough) seen before = omega (arith, seen .announcements, before)
+
+-- so it is behind every trace
+announced : (q : ℕ) (trace : Trace Act) (u : ℕ) → Announced q trace u (record-of q trace u)
+unfolding times
+announced q = by-steps q (Announced q) (λ u. le-refl 0) (announced-step q)
+
+-- ---- what the records say
+
 module _ (q : ℕ) (trace : Trace Act) (u : ℕ) where
   -- none delivers twice,
   pub delivers-once : number-of q (delivering q) trace u ≤ 1
@@ -118,7 +143,7 @@ module _ (q : ℕ) (trace : Trace Act) (u : ℕ) where
       go (Held signers payload) t = omega (arith, t .deliveries)
       go (Delivered signers payload) t = t .deliveries
 
-  -- and each sends at most two bundles
+  -- each sends at most two bundles,
   pub sends-twice : number-of q (sending q) trace u ≤ 2
   sends-twice = go (record-of q trace u) (told q trace u)
     where
@@ -126,6 +151,15 @@ module _ (q : ℕ) (trace : Trace Act) (u : ℕ) where
       go Empty t = omega (arith, t .sendings)
       go (Held signers payload) t = omega (arith, t .sendings)
       go (Delivered signers payload) t = t .sendings
+
+  -- and none announces twice
+  pub announces-once : number-of q (announcing q) trace u ≤ 1
+  announces-once = go (record-of q trace u) (announced q trace u)
+    where
+      go : (r : Record) → Announced q trace u r → number-of q (announcing q) trace u ≤ 1
+      go Empty few = omega arith
+      go (Held signers payload) few = few
+      go (Delivered signers payload) few = few
 
   -- a payload that was delivered is the record's
   pub delivered-record : (payload : List ℕ) → some q (deliveringThis q payload) trace u ≡ true

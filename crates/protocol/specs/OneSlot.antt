@@ -51,10 +51,14 @@ module _ (q : ℕ) where
   unfoldable pub deliveringThis : List ℕ → ℕ → Act → Record → Bool
   deliveringThis payload own act r = after (play own act r) (λ turn. delivers (turn .answer) && same (payloadOf (turn .after)) payload) false
 
-  -- it announces the payload
-  unfoldable pub announcing : List ℕ → ℕ → Act → Record → Bool
-  announcing payload own (announce first) r = isEmpty r && same first payload
-  announcing payload own (hand signers first) r = false
+  -- it announces; it announces the payload
+  unfoldable pub announcing : ℕ → Act → Record → Bool
+  announcing own (announce payload) r = isEmpty r
+  announcing own (hand signers payload) r = false
+
+  unfoldable pub announcingThis : List ℕ → ℕ → Act → Record → Bool
+  announcingThis payload own (announce first) r = announcing own (announce first) r && same first payload
+  announcingThis payload own (hand signers first) r = false
 
   -- a bundle with these signers and this payload is handed to it, taken or refused
   unfoldable pub handed : ℕ → List ℕ → ℕ → Act → Record → Bool
@@ -119,20 +123,23 @@ module _ (n q sender : ℕ) (faulty : NodeSet) where
     Validity =
         (u : ℕ) (payload : List ℕ) → correct n faulty u ≡ true → correct n faulty sender ≡ true
         → some q (deliveringThis q payload) trace u ≡ true
-        → some q (announcing q payload) trace sender ≡ true
+        → some q (announcingThis q payload) trace sender ≡ true
 
-    -- none delivers twice, and each sends at most two bundles
+    -- none delivers twice, each sends at most two bundles, and none announces twice
     abbrev pub Once : Type 0
     Once = (u : ℕ) → number-of q (delivering q) trace u ≤ 1
 
     abbrev pub Twice : Type 0
     Twice = (u : ℕ) → number-of q (sending q) trace u ≤ 2
 
+    abbrev pub Single : Type 0
+    Single = (u : ℕ) → number-of q (announcing q) trace u ≤ 1
+
     -- each announcement, and each payload that some correct node delivered, is delivered by at least c - d correct nodes
     abbrev pub Delivery : Type 0
     Delivery =
         (u : ℕ) (payload : List ℕ) → correct n faulty u ≡ true
-        → ((u ≡ sender) × (some q (announcing q payload) trace u ≡ true)) ⊎ (some q (deliveringThis q payload) trace u ≡ true)
+        → ((u ≡ sender) × (some q (announcingThis q payload) trace u ≡ true)) ⊎ (some q (deliveringThis q payload) trace u ≡ true)
         → NearlyAll (some q (deliveringThis q payload) trace)
 
 -- the theorem on values
@@ -144,4 +151,5 @@ OneSlotHolds =
     × Validity n q sender faulty d trace
     × Once n q sender faulty d trace
     × Twice n q sender faulty d trace
+    × Single n q sender faulty d trace
     × (Reached n q sender faulty d trace → Delivery n q sender faulty d trace)

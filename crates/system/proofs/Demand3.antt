@@ -18,15 +18,15 @@ use Rattle.config.proofs.Laws.{good-says, quorum-intersects, quorum-reachable}
 use Rattle.protocol.specs.Slot.{Record, Empty}
 use Rattle.protocol.specs.Trace.{Trace}
 use Rattle.protocol.specs.OneSlot as one-slot
-use Rattle.protocol.specs.OneSlot.{OneSlotHolds, Quorum, Act, next, some as somewhere, number-of, sending, sendingThis, delivering, deliveringThis, announcing, handed}
+use Rattle.protocol.specs.OneSlot.{OneSlotHolds, Quorum, Act, next, some as somewhere, number-of, sending, sendingThis, delivering, deliveringThis, announcing, announcingThis, handed}
 use Rattle.protocol.proofs.Sound.{Bundled}
 use Rattle.protocol.proofs.OneSlot.{one-slot-holds}
-use Rattle.system.specs.Demand3.{Call, System, config, correct, c, NearlyAll, recordsAfter, announces, deliversIn, delivers, sendsThis, sendsIn, reaches, ever, times, Assumed, Agreement, Once, Validity, Twice, Reached, Delivery, Demand3}
+use Rattle.system.specs.Demand3.{Call, System, config, correct, c, NearlyAll, recordsAfter, announcesIn, announces, deliversIn, delivers, sendsThis, sendsIn, reaches, ever, times, Assumed, Agreement, Once, Validity, Twice, Reached, Delivery, Demand3}
 use Rattle.system.proofs.Projection.{act-says, ever-forth, ever-back, times-forth, ever-says, never-times}
 use Rattle.system.proofs.Views.{act}
 use Rattle.system.proofs.Shared.{quorumOf, bundleIn}
 use Rattle.system.proofs.Matches.{Match}
-use Rattle.system.proofs.Tests.{asked, delivers-in, delivers-any, delivers-forth, delivers-back, announces-forth, announces-back, reaches-forth, sends-forth, sends-back, sends-bundled}
+use Rattle.system.proofs.Tests.{asked, delivers-in, delivers-any, delivers-forth, delivers-back, announces-in, announces-any, announces-forth, announces-back, reaches-forth, sends-forth, sends-back, sends-bundled}
 use Rattle.system.proofs.Ranges.{InRange, delivers-range, announces-range, sends-range}
 use Rattle.system.proofs.Slots.{acts, AllMatched, lawful-matched, lawful-acts}
 
@@ -87,6 +87,7 @@ module _ (theorem : OneSlotHolds) (s : System) (list : Trace Call) (assumed : As
       × one-slot.Validity (s .shared .n) q sender (s .faulty) (s .shared .d) happened
       × one-slot.Once (s .shared .n) q sender (s .faulty) (s .shared .d) happened
       × one-slot.Twice (s .shared .n) q sender (s .faulty) (s .shared .d) happened
+      × one-slot.Single (s .shared .n) q sender (s .faulty) (s .shared .d) happened
       × (one-slot.Reached (s .shared .n) q sender (s .faulty) (s .shared .d) happened
       → one-slot.Delivery (s .shared .n) q sender (s .faulty) (s .shared .d) happened)
   values =
@@ -132,9 +133,10 @@ module _ (theorem : OneSlotHolds) (s : System) (list : Trace Call) (assumed : As
   delivered-back content u =
       back (delivers s sender seq content) (deliveringThis q content) u (λ call records r. delivers-back s sender seq u call records r content)
 
-  announced-forth : (content : List ℕ) (u : ℕ) → u ≡ sender → ever s (announces s seq content) list u ≡ true → somewhere q (announcing q content) happened u ≡ true
+  announced-forth : (content : List ℕ) (u : ℕ) → u ≡ sender → ever s (announces s seq content) list u ≡ true
+      → somewhere q (announcingThis q content) happened u ≡ true
   announced-forth content u same =
-      forth (announces s seq content) (announcing q content) u (λ call records r. announces-forth s sender seq u call records r content same)
+      forth (announces s seq content) (announcingThis q content) u (λ call records r. announces-forth s sender seq u call records r content same)
 
   agreement-in : (u v : ℕ) (first second : List ℕ) → correct s u ≡ true → correct s v ≡ true
       → ever s (delivers s sender seq first) list u ≡ true → ever s (delivers s sender seq second) list v ≡ true → first ≡ second
@@ -145,7 +147,7 @@ module _ (theorem : OneSlotHolds) (s : System) (list : Trace Call) (assumed : As
       → ever s (announces s seq content) list sender ≡ true
   unfolding correct
   validity-in u content hu hs e =
-      back (announces s seq content) (announcing q content) sender (λ call records r. announces-back s sender seq sender call records r content)
+      back (announces s seq content) (announcingThis q content) sender (λ call records r. announces-back s sender seq sender call records r content)
       (values .1 u content hu hs (delivered-forth content u e))
 
   once-in : (u : ℕ) → times s (deliversIn s sender seq) list u ≤ 1
@@ -153,6 +155,10 @@ module _ (theorem : OneSlotHolds) (s : System) (list : Trace Call) (assumed : As
 
   twice-in : (u : ℕ) → times s (sendsIn s sender seq) list u ≤ 2
   twice-in u = le-trans (fewer (sendsIn s sender seq) (sending q) u (λ call records r. sends-forth s sender seq u call records r)) (values .3 u)
+
+  single-in : times s (announcesIn s seq) list sender ≤ 1
+  single-in =
+      le-trans (fewer (announcesIn s seq) (announcing q) sender (λ call records r. announces-any s sender seq sender call records r refl)) (values .4 sender)
 
   -- a bundle that was sent on values was sent by its bytes, and by its bytes it reached whom it reached on values
   reached-in : Reached s list → one-slot.Reached (s .shared .n) q sender (s .faulty) (s .shared .d) happened
@@ -175,10 +181,10 @@ module _ (theorem : OneSlotHolds) (s : System) (list : Trace Call) (assumed : As
   unfolding correct
   delivery-in reached u content hu why =
       more s (somewhere q (deliveringThis q content) happened) (ever s (delivers s sender seq content) list) (λ v hv. delivered-back content v)
-      (to-calls s (somewhere q (deliveringThis q content) happened) (values .4 (reached-in reached) u content hu (on-values why)))
+      (to-calls s (somewhere q (deliveringThis q content) happened) (values .5 (reached-in reached) u content hu (on-values why)))
     where
       on-values : ((u ≡ sender) × (ever s (announces s seq content) list u ≡ true)) ⊎ (ever s (delivers s sender seq content) list u ≡ true)
-          → ((u ≡ sender) × (somewhere q (announcing q content) happened u ≡ true)) ⊎ (somewhere q (deliveringThis q content) happened u ≡ true)
+          → ((u ≡ sender) × (somewhere q (announcingThis q content) happened u ≡ true)) ⊎ (somewhere q (deliveringThis q content) happened u ≡ true)
       on-values (inl x) = inl (x .0, announced-forth content u (x .0) (x .1))
       on-values (inr x) = inr (delivered-forth content u x)
 
@@ -192,7 +198,9 @@ module _ (s : System) (list : Trace Call) (u sender seq : ℕ) where
       (λ call records e. delivers-range s u sender seq call records (delivers-in s sender seq content u call records e)) list
 
   announced-range : (content : List ℕ) → u ≡ sender → ever s (announces s seq content) list u ≡ true → InRange s sender seq
-  announced-range content same = ever-says (s .buffers) (recordsAfter s) (announces s seq content) u (announces-range s u sender seq content same) list
+  announced-range content same =
+      ever-says (s .buffers) (recordsAfter s) (announces s seq content) u
+      (λ call records e. announces-range s u sender seq same call records (announces-in s seq content u call records e)) list
 
   active : (content : List ℕ)
       → ((u ≡ sender) × (ever s (announces s seq content) list u ≡ true)) ⊎ (ever s (delivers s sender seq content) list u ≡ true) → InRange s sender seq
@@ -218,6 +226,8 @@ demand3-from theorem s list assumed =
           bounded s list u sender seq (deliversIn s sender seq) 1 (delivers-range s u sender seq) (λ range. once-in theorem s list assumed sender seq range u);
       validity = λ u sender seq content hu hs e.
           validity-in theorem s list assumed sender seq (delivered-range s list u sender seq content e) u content hu hs e;
+      single = λ u seq hu.
+          bounded s list u u seq (announcesIn s seq) 1 (announces-range s u u seq refl) (λ range. single-in theorem s list assumed u seq range);
       twice = λ u sender seq hu.
           bounded s list u sender seq (sendsIn s sender seq) 2 (sends-range s u sender seq) (λ range. twice-in theorem s list assumed sender seq range u);
       delivery = λ reached u sender seq content hu why.

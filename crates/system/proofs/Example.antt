@@ -11,7 +11,7 @@ use Rattle.signers.specs.Sets.{count}
 use Rattle.config.specs.Config.{good}
 use Rattle.protocol.specs.Trace as trace
 use Rattle.protocol.specs.Trace.{each}
-use Rattle.system.specs.Demand3.{inSlot, config, correct, c, opens, announces, deliversIn, delivers, sends, sendsThis, sendsIn, signs, reaches, ever, Assumed}
+use Rattle.system.specs.Demand3.{inSlot, config, correct, c, opens, announcesIn, announces, deliversIn, delivers, sends, sendsThis, sendsIn, signs, reaches, ever, Assumed}
 use Rattle.system.specs.Example.{six, first, second, third, gets, faultySlot, correctSlot, list, reached, NotVacuous}
 use Rattle.system.proofs.Computing.{calls-compute}
 use Rattle.system.proofs.Tested.{seen, unforged-test, lawful-test, lawful-says, sent-test, sent-says}
@@ -23,8 +23,8 @@ passes : (lawful-test six list ≡ true)
     × (each (ever six (delivers six 5 0 first) list) 5 ≡ true)
     × (ever six (announces six 0 third) list 0 ≡ true)
     × (each (ever six (delivers six 0 0 third) list) 5 ≡ true)
-unfolding six first second third gets faultySlot correctSlot list calls-compute inSlot correct c opens announces deliversIn delivers sends sendsIn signs reaches
-    count each trace.ever seen unforged-test lawful-test sent-test
+unfolding six first second third gets faultySlot correctSlot list calls-compute inSlot correct c opens announcesIn announces deliversIn delivers sends sendsIn signs
+    reaches count each trace.ever seen unforged-test lawful-test sent-test
 passes = (refl, refl, refl, refl, refl, refl)
 
 assumed : Assumed six list

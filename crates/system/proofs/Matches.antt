@@ -21,7 +21,7 @@ use Rattle.bundle.specs.declared.Header.{Header}
 use Rattle.bundle.specs.Bundle.{size, payloadSize, bundleOf, dayOf, headerOf, read, payload}
 use Rattle.protocol.specs.Slot as slot
 use Rattle.protocol.specs.Slot.{Record, Empty, Turn, signersOf, payloadOf, isEmpty, announced, announcedBy, update}
-use Rattle.protocol.specs.OneSlot.{Act, announce, hand, play, next, delivering, deliveringThis, sending, announcing, handed}
+use Rattle.protocol.specs.OneSlot.{Act, announce, hand, play, next, delivering, deliveringThis, sending, announcing, announcingThis, handed}
 use Rattle.protocol.proofs.Sound.{Bundled, Sound, sound-bundled, announced-sound, update-payload, update-sound}
 use Rattle.record.specs.Record.{image, wellFormed}
 use Rattle.record.proofs.Image.{image-length, empty-image, blank-image, image-wellFormed, recordIn-image}
@@ -34,7 +34,7 @@ use Rattle.calls.proofs.Found.{Announced, broadcast-done}
 use Rattle.calls.proofs.Taking.{Read, read-says, receive-updates, receive-done}
 use Rattle.calls.proofs.Refusals.{receive-unread}
 use Rattle.calls.proofs.Sent.{sent-reads}
-use Rattle.system.specs.Demand3.{Call, Open, Broadcast, Receive, System, config, inSlot, payloadIn, recordsAfter, outAfter, announces, deliversIn, delivers, sends, sendsIn, reaches}
+use Rattle.system.specs.Demand3.{Call, Open, Broadcast, Receive, System, config, inSlot, payloadIn, recordsAfter, outAfter, announcesIn, announces, deliversIn, delivers, sends, sendsIn, reaches}
 use Rattle.system.proofs.Views.{View, opening, announced-here, announced-elsewhere, announced-not, handed-here, handed-elsewhere, handed-short, handed-unread}
 use Rattle.system.proofs.Shared.{quorumOf, config-good, config-quorum, slotHeader, bundleIn, answerTo, other-slot, other-bundle}
 
@@ -56,7 +56,7 @@ Ready s sender seq u (Receive bundle out) records r = Holds s sender seq u recor
 pub record Quiet (s : System) (sender seq u : ℕ) (call : Call) (records : List ℕ) (r : Record) : Type 0 where
   pub undelivered : deliversIn s sender seq u call records ≡ false
   pub unsent : sendsIn s sender seq u call records ≡ false
-  pub unannounced : u ≡ sender → (content : List ℕ) → announces s seq content u call records ≡ false
+  pub unannounced : u ≡ sender → announcesIn s seq u call records ≡ false
   pub unreached : (signers : ℕ) (content : List ℕ) → Bundled (s .shared .n) sender signers content
       → reaches s (bundleIn s sender seq signers content) u call records ≡ true → ⊥
   pub left : Holds s sender seq u (recordsAfter s u call records) r
@@ -69,7 +69,8 @@ pub record Played (s : System) (sender seq u : ℕ) (call : Call) (records : Lis
   pub as-written : (turn : Turn) → play (quorumOf s) u a r ≡ done turn → slot.sends (turn .answer) ≡ true
       → (outAfter s u call records ≡ bundleIn s sender seq (signersOf (turn .after)) (payloadOf (turn .after)))
       × Bundled (s .shared .n) sender (signersOf (turn .after)) (payloadOf (turn .after))
-  pub as-announced : (content : List ℕ) → announces s seq content u call records ≡ announcing (quorumOf s) content u a r
+  pub as-announced : announcesIn s seq u call records ≡ announcing (quorumOf s) u a r
+  pub as-announced-this : (content : List ℕ) → announces s seq content u call records ≡ announcingThis (quorumOf s) content u a r
   pub as-reached : (signers : ℕ) (content : List ℕ) → Bundled (s .shared .n) sender signers content
       → reaches s (bundleIn s sender seq signers content) u call records ≡ true → handed (quorumOf s) signers content u a r ≡ true
   pub left : Holds s sender seq u (recordsAfter s u call records) (next (quorumOf s) u a r)
@@ -146,12 +147,12 @@ module _ (s : System) (g : good (config s 0) ≡ true) (u : ℕ) (l : u < s .sha
   -- opening
   open-match : (sender seq : ℕ) (records : List ℕ) (r : Record) → sender < s .shared .n → seq < slots
       → length records ≡ recordsSize (config s u) → r ≡ Empty → Quiet s sender seq u Open records r
-  unfolding deliversIn sendsIn sends announces reaches recordsAfter config
+  unfolding deliversIn sendsIn sends announcesIn reaches recordsAfter config
   open-match sender seq records r hs hk size e =
       record {
         undelivered = refl;
         unsent = refl;
-        unannounced = λ own content. refl;
+        unannounced = λ own. refl;
         unreached = λ signers content b x. true≢false (sym x);
         left = opened-holds;
       }
@@ -170,12 +171,12 @@ module _ (s : System) (g : good (config s 0) ≡ true) (u : ℕ) (l : u < s .sha
   -- announcing that is refused
   unannounced-match : (sender seq : ℕ) (content out records : List ℕ) (r : Record) (number : ℕ) → broadcast (config s u) content records out ≡ refused number
       → Holds s sender seq u records r → Quiet s sender seq u (Broadcast content out) records r
-  unfolding deliversIn sendsIn sends announces reaches recordsAfter broadcastRecords
+  unfolding deliversIn sendsIn sends announcesIn reaches recordsAfter broadcastRecords
   unannounced-match sender seq content out records r number e holds =
       record {
         undelivered = refl;
         unsent = rw e;
-        unannounced = λ own first. rw e;
+        unannounced = λ own. rw e;
         unreached = λ signers first b x. true≢false (sym x);
         left = rw e holds;
       }
@@ -184,12 +185,12 @@ module _ (s : System) (g : good (config s 0) ≡ true) (u : ℕ) (l : u < s .sha
   elsewhere-match : (sender seq : ℕ) → sender < s .shared .n → seq < slots → (content out records : List ℕ) (r : Record) (k : ℕ)
       → broadcast (config s u) content records out ≡ done k → (eqb u sender && eqb k seq) ≡ false
       → Holds s sender seq u records r → Quiet s sender seq u (Broadcast content out) records r
-  unfolding deliversIn sendsIn sends outAfter announces reaches recordsAfter broadcastRecords broadcastOut config
+  unfolding deliversIn sendsIn sends outAfter announcesIn reaches recordsAfter broadcastRecords broadcastOut config
   elsewhere-match sender seq hs hk content out records r k e other holds =
       record {
         undelivered = refl;
         unsent = rw e (other-bundle (s .shared .day) sender seq (slotHeader u k (insert 0 u)) content other);
-        unannounced = λ own first. rw e (ap (λ (b : Bool). b && same content first) (apart own));
+        unannounced = λ own. rw e (apart own);
         unreached = λ signers first b x. true≢false (sym x);
         left = rw e (stores-elsewhere sender seq hs hk records u k r (announcedBy u content) l (done-here .slot) other long holds);
       }
@@ -206,14 +207,16 @@ module _ (s : System) (g : good (config s 0) ≡ true) (u : ℕ) (l : u < s .sha
   -- announcing in this slot, which is then the node's own
   here-match : (seq : ℕ) (content out records : List ℕ) (r : Record) → broadcast (config s u) content records out ≡ done seq
       → Holds s u seq u records r → Played s u seq u (Broadcast content out) records r (announce content)
-  unfolding deliversIn delivers sends outAfter announces reaches recordsAfter broadcastRecords broadcastOut config delivering deliveringThis sending announcing next
+  unfolding deliversIn delivers sends outAfter announcesIn announces reaches recordsAfter broadcastRecords broadcastOut config delivering deliveringThis
+      sending announcing announcingThis next
   here-match seq content out records r e holds =
       record {
         as-delivered = rw played;
         as-delivered-this = λ first. rw played;
         as-sent = rw (e, played);
         as-written = λ turn f x. written turn f;
-        as-announced = λ first. rw (e, empty, eq-eqb seq seq refl);
+        as-announced = rw (e, empty, eq-eqb seq seq refl);
+        as-announced-this = λ first. rw (e, empty, eq-eqb seq seq refl);
         as-reached = λ signers first b x. absurd (true≢false (sym x));
         left = rw (e, played) (stores-here u seq l (done-here .slot) records (announcedBy u content) long (holds .sized) sound-here);
       }
@@ -259,12 +262,12 @@ module _ (s : System) (g : good (config s 0) ≡ true) (u : ℕ) (l : u < s .sha
       → ((signers : ℕ) (content : List ℕ) → Bundled (s .shared .n) sender signers content
       → reaches s (bundleIn s sender seq signers content) u (Receive bundle out) records ≡ true → ⊥)
       → Holds s sender seq u records r → Quiet s sender seq u (Receive bundle out) records r
-  unfolding deliversIn sendsIn sends announces recordsAfter receiveRecords
+  unfolding deliversIn sendsIn sends announcesIn recordsAfter receiveRecords
   refused-match sender seq bundle out records r number e unreached holds =
       record {
         undelivered = rw e;
         unsent = rw e;
-        unannounced = λ own first. refl;
+        unannounced = λ own. refl;
         unreached = unreached;
         left = rw e holds;
       }
@@ -285,12 +288,12 @@ module _ (s : System) (g : good (config s 0) ≡ true) (u : ℕ) (l : u < s .sha
     -- the bundle given and the bundle sent are in that slot, and the record stored there
     other-done : (turn : Turn) → receive (config s u) bundle records out ≡ done turn → Holds s sender seq u records r
         → Quiet s sender seq u (Receive bundle out) records r
-    unfolding deliversIn sendsIn sends outAfter announces recordsAfter receiveRecords receiveOut recordBundle config
+    unfolding deliversIn sendsIn sends outAfter announcesIn recordsAfter receiveRecords receiveOut recordBundle config
     other-done turn f holds =
         record {
           undelivered = rw (f, given) (and-false (slot.delivers (turn .answer)));
           unsent = rw f (sent (slot.sends (turn .answer)));
-          unannounced = λ own first. refl;
+          unannounced = λ own. refl;
           unreached = other-unreached;
           left =
               rw f
@@ -426,7 +429,7 @@ module _ (s : System) (g : good (config s 0) ≡ true) (u : ℕ) (l : u < s .sha
         rw receive-here (and-slot turned (inSlot (s .shared .day) sender seq bundle) slot-here)
 
     handed-match : Played s sender seq u (Receive bundle out) records r (hand (h .signers) (payload (config s u) bundle))
-    unfolding delivers sends outAfter announces recordsAfter receiveRecords delivering deliveringThis sending announcing handed next
+    unfolding delivers sends outAfter announcesIn announces recordsAfter receiveRecords delivering deliveringThis sending announcing announcingThis handed next
     handed-match =
         record {
           as-delivered = delivered-here;
@@ -435,7 +438,8 @@ module _ (s : System) (g : good (config s 0) ≡ true) (u : ℕ) (l : u < s .sha
               ∙ delivered-this content turned refl;
           as-sent = rw receive-here;
           as-written = λ turn f x. turn-written turn f x;
-          as-announced = λ content. refl;
+          as-announced = refl;
+          as-announced-this = λ content. refl;
           as-reached = λ signers content b x.
               let back = reached-read sender seq hs hk dated bundle out records signers content b x in
               let same-header : h ≡ slotHeader sender seq signers = done-same h (slotHeader sender seq signers) (sym e ∙ back .0) in

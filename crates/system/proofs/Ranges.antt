@@ -6,7 +6,6 @@ use mathlib.Core.List.{List}
 use Prim.Native.Nat.{ℕ, _<_}
 use lib.Dec.{eqb}
 use borrow.Author.Tests.{eqb-true}
-use Rattle.octets.specs.Octets.{same}
 use Rattle.signers.specs.Signers.{insert}
 use Rattle.refusal.specs.Outcome.{Outcome, refused, done, after}
 use Rattle.refusal.proofs.Reasons.{refused-not-done}
@@ -21,7 +20,7 @@ use Rattle.calls.specs.Receive.{recordBundle, receive, receiveOut}
 use Rattle.calls.proofs.Found.{broadcast-done}
 use Rattle.calls.proofs.Taking.{read-says}
 use Rattle.calls.proofs.Refusals.{receive-unread}
-use Rattle.system.specs.Demand3.{Call, Open, Broadcast, Receive, System, config, inSlot, outAfter, announces, deliversIn, sends, sendsIn}
+use Rattle.system.specs.Demand3.{Call, Open, Broadcast, Receive, System, config, inSlot, outAfter, announcesIn, deliversIn, sends, sendsIn}
 use Rattle.system.proofs.Shared.{slotHeader, bundleIn, answerTo, bundle-slot}
 
 -- the slot is a sender's, who is one of the nodes, and has one of the sixteen numbers
@@ -76,17 +75,17 @@ module _ (s : System) (u : ℕ) where
             let range = taken-range bundle records out turn f in
             in-range s sender seq (headerOf bundle .sender) (headerOf bundle .seq) (range .0) (range .1) (names .0) (names .1)
 
-    pub announces-range : (content : List ℕ) → u ≡ sender → (call : Call) (records : List ℕ) → announces s seq content u call records ≡ true → InRange s sender seq
-    unfolding announces
-    announces-range content same-node Open records e = absurd (true≢false (sym e))
-    announces-range content same-node (Broadcast given out) records e = go (broadcast (config s u) given records out) refl e
+    pub announces-range : u ≡ sender → (call : Call) (records : List ℕ) → announcesIn s seq u call records ≡ true → InRange s sender seq
+    unfolding announcesIn
+    announces-range same-node Open records e = absurd (true≢false (sym e))
+    announces-range same-node (Broadcast given out) records e = go (broadcast (config s u) given records out) refl e
       where
-        go : (o : Outcome ℕ) → broadcast (config s u) given records out ≡ o → after o (λ k. eqb k seq && same given content) false ≡ true → InRange s sender seq
+        go : (o : Outcome ℕ) → broadcast (config s u) given records out ≡ o → after o (λ k. eqb k seq) false ≡ true → InRange s sender seq
         go (refused number) f x = absurd (true≢false (sym x))
         go (done k) f x =
             let range = announced-range given records out k f in
-            in-range s sender seq u k (range .0) (range .1) same-node (eqb-true k seq (and-eq-true-iff (eqb k seq) (same given content) .0 x .0))
-    announces-range content same-node (Receive bundle out) records e = absurd (true≢false (sym e))
+            in-range s sender seq u k (range .0) (range .1) same-node (eqb-true k seq x)
+    announces-range same-node (Receive bundle out) records e = absurd (true≢false (sym e))
 
     -- a bundle put together for a slot in range
     written-range : (h : Header) (content : List ℕ) → (h .sender < s .shared .n) × (h .seq < slots)

@@ -1,7 +1,7 @@
 -- A list of calls and what it comes to in one slot: behind every lawful list the slot's bytes at each node are the record that the acts leave, each
 -- call matches its act, and the acts are lawful on values. By induction on the list.
 -- Assumes nothing.
-use mathlib.Core.Path.{_≡_, refl, sym, subst, subst₂}
+use mathlib.Core.Path.{_≡_, refl, sym, ap, _∙_, subst, subst₂}
 use mathlib.Core.Option.{Option, none, some}
 use mathlib.Core.Bool.{Bool, true, false, cond, not, true≢false, and-eq-true-iff}
 use mathlib.Core.List.{List}
@@ -43,14 +43,15 @@ module _ (s : System) (sender seq : ℕ) where
   abbrev pub AllMatched : Trace Call → Type 0
   AllMatched = Matched (s .buffers) (recordsAfter s) (λ node. Empty) (next (quorumOf s)) (act s sender seq) (Match s sender seq)
 
-  -- what a node keeps: once it was called, the record in its bytes; before that, none
+  -- what a node keeps: once it was called, the record in its bytes; before that, none, and its first buffer
   record Keeps (list : Trace Call) (u : ℕ) : Type 0 where
     opened : called s list u ≡ true → Holds s sender seq u (buffer s list u) (recordOf list u)
     unopened : called s list u ≡ false → recordOf list u ≡ Empty
+    untouched : called s list u ≡ false → buffer s list u ≡ s .buffers u
 
   keeps-start : (u : ℕ) → Keeps start u
   unfolding trace.ever state project
-  keeps-start u = record { opened = λ e. absurd (true≢false (sym e)); unopened = λ e. refl }
+  keeps-start u = record { opened = λ e. absurd (true≢false (sym e)); unopened = λ e. refl; untouched = λ e. refl }
 
   -- the record that an act leaves, or none
   abbrev moved : ℕ → Option Act → Record → Record
@@ -88,19 +89,23 @@ module _ (s : System) (sender seq : ℕ) where
             record {
               opened = λ x. rw (moved-record, e) (there e);
               unopened = λ x. absurd (true≢false (rw e at x));
+              untouched = λ x. absurd (true≢false (rw e at x));
             }
         go false e =
             record {
               opened = λ x. rw (moved-record, e) (before u .opened (rw e at x));
               unopened = λ x. rw (moved-record, e) (before u .unopened (rw e at x));
+              untouched = λ x. rw e (before u .untouched (rw e at x));
             }
 
   -- a lawful call finds the slot as the node keeps it
-  ready : (earlier : Trace Call) (v : ℕ) (call : Call) → length (buffer s earlier v) ≡ recordsSize (config s v)
+  ready : (earlier : Trace Call) (v : ℕ) (call : Call) → length (s .buffers v) ≡ recordsSize (config s v)
       → opens s v call (buffer s earlier v) ≡ not (called s earlier v) → Keeps earlier v
       → Ready s sender seq v call (buffer s earlier v) (recordOf earlier v)
   unfolding opens
-  ready earlier v Open size first keeps = (size, keeps .unopened (not-true (called s earlier v) (sym first)))
+  ready earlier v Open size first keeps =
+      let uncalled = not-true (called s earlier v) (sym first) in
+      (ap length (keeps .untouched uncalled) ∙ size, keeps .unopened uncalled)
   ready earlier v (Broadcast content out) size first keeps = keeps .opened (not-false (called s earlier v) (sym first))
   ready earlier v (Receive bundle out) size first keeps = keeps .opened (not-false (called s earlier v) (sym first))
 

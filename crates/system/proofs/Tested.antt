@@ -66,7 +66,7 @@ module _ (s : System) where
   lawful-test (earlier then u calls call) =
       lawful-test earlier
       && (correct s u
-      && (eqb (length (buffer s earlier u)) (recordsSize (config s u))
+      && (eqb (length (s .buffers u)) (recordsSize (config s u))
       && (Bool·beq (opens s u call (buffer s earlier u)) (not (called s earlier u))
       && unforged-test earlier u call)))
 
@@ -122,7 +122,7 @@ module _ (s : System) where
   lawful-says (earlier then u calls call) e =
       let (before, rest) = and-eq-true-iff (lawful-test earlier) _ .0 e in
       let (sound, rest′) = and-eq-true-iff (correct s u) _ .0 rest in
-      let (sized, rest″) = and-eq-true-iff (eqb (length (buffer s earlier u)) (recordsSize (config s u))) _ .0 rest′ in
+      let (sized, rest″) = and-eq-true-iff (eqb (length (s .buffers u)) (recordsSize (config s u))) _ .0 rest′ in
       let (first, unforged) = and-eq-true-iff (Bool·beq (opens s u call (buffer s earlier u)) (not (called s earlier u))) _ .0 rest″ in
       let past = lawful-says earlier before in
       (past, sound, eqb-true _ _ sized, agree-says _ _ first, unforged-says earlier u call past sound unforged)

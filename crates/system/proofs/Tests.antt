@@ -17,11 +17,11 @@ use Rattle.bundle.specs.declared.Header.{Header}
 use Rattle.bundle.specs.Bundle.{headerOf}
 use Rattle.protocol.specs.Slot as slot
 use Rattle.protocol.specs.Slot.{Record, Empty, Turn, signersOf, payloadOf}
-use Rattle.protocol.specs.OneSlot.{Act, play, next, sending, sendingThis, signing, delivering, deliveringThis, announcing, handed}
+use Rattle.protocol.specs.OneSlot.{Act, play, next, sending, sendingThis, signing, delivering, deliveringThis, announcing, announcingThis, handed}
 use Rattle.protocol.proofs.Sound.{Bundled}
 use Rattle.calls.proofs.Taking.{read-says}
 use Rattle.calls.proofs.Sent.{sent-reads}
-use Rattle.system.specs.Demand3.{Call, Open, Broadcast, Receive, System, config, inSlot, payloadIn, recordsAfter, outAfter, announces, deliversIn, delivers, sends, sendsThis, sendsIn, signs, reaches}
+use Rattle.system.specs.Demand3.{Call, Open, Broadcast, Receive, System, config, inSlot, payloadIn, recordsAfter, outAfter, announcesIn, announces, deliversIn, delivers, sends, sendsThis, sendsIn, signs, reaches}
 use Rattle.system.proofs.Projection as projection
 use Rattle.system.proofs.Views.{act}
 use Rattle.system.proofs.Shared.{quorumOf, bundleIn, slotHeader}
@@ -42,6 +42,15 @@ delivers-in s sender seq content u Open records e = absurd (true≢false (sym e)
 delivers-in s sender seq content u (Broadcast given out) records e = absurd (true≢false (sym e))
 delivers-in s sender seq content u (Receive bundle out) records e =
     and-eq-true-iff (deliversIn s sender seq u (Receive bundle out) records) (same (payloadIn bundle) content) .0 e .0
+
+-- and a payload is announced by a call that announces
+pub announces-in : (s : System) (seq : ℕ) (content : List ℕ) (u : ℕ) (call : Call) (records : List ℕ) → announces s seq content u call records ≡ true
+    → announcesIn s seq u call records ≡ true
+unfolding announces
+announces-in s seq content u Open records e = absurd (true≢false (sym e))
+announces-in s seq content u (Broadcast given out) records e =
+    and-eq-true-iff (announcesIn s seq u (Broadcast given out) records) (same given content) .0 e .0
+announces-in s seq content u (Receive bundle out) records e = absurd (true≢false (sym e))
 
 -- an act that sends, by its turn
 sending-turn : (q u : ℕ) (a : Act) (r : Record) → sending q u a r ≡ true → (turn : Turn) × (play q u a r ≡ done turn) × (slot.sends (turn .answer) ≡ true)
@@ -85,16 +94,21 @@ module _ (s : System) (sender seq : ℕ) (u : ℕ) (call : Call) (records : List
   delivers-back content none h e = absurd (true≢false (sym e))
   delivers-back content (some a) h e = h .as-delivered-this content ∙ e
 
-  -- announcing, at the sender
+  -- announcing at the sender, of whatever payload and of this one
+  pub announces-any : u ≡ sender → (m : Option Act) → Match s sender seq u call records r m → announcesIn s seq u call records ≡ true
+      → asked s sender seq (announcing (quorumOf s)) u m r ≡ true
+  announces-any own none h e = not-both e (h .unannounced own)
+  announces-any own (some a) h e = sym (h .as-announced) ∙ e
+
   pub announces-forth : (content : List ℕ) → u ≡ sender → (m : Option Act) → Match s sender seq u call records r m → announces s seq content u call records ≡ true
-      → asked s sender seq (announcing (quorumOf s) content) u m r ≡ true
-  announces-forth content same none h e = not-both e (h .unannounced same content)
-  announces-forth content same (some a) h e = sym (h .as-announced content) ∙ e
+      → asked s sender seq (announcingThis (quorumOf s) content) u m r ≡ true
+  announces-forth content own none h e = not-both (announces-in s seq content u call records e) (h .unannounced own)
+  announces-forth content own (some a) h e = sym (h .as-announced-this content) ∙ e
 
   pub announces-back : (content : List ℕ) (m : Option Act) → Match s sender seq u call records r m
-      → asked s sender seq (announcing (quorumOf s) content) u m r ≡ true → announces s seq content u call records ≡ true
+      → asked s sender seq (announcingThis (quorumOf s) content) u m r ≡ true → announces s seq content u call records ≡ true
   announces-back content none h e = absurd (true≢false (sym e))
-  announces-back content (some a) h e = h .as-announced content ∙ e
+  announces-back content (some a) h e = h .as-announced-this content ∙ e
 
   -- being handed a bundle that a correct node could have sent
   pub reaches-forth : (signers : ℕ) (content : List ℕ) → Bundled (s .shared .n) sender signers content → (m : Option Act) → Match s sender seq u call records r m

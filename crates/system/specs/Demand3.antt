@@ -81,10 +81,14 @@ module _ (s : System) where
   opens u (Receive bundle out) records = false
 
   -- "A unit announces a body when announcing it is answered announced; the slot is the day, its own number and the number answered."
+  unfoldable pub announcesIn : ℕ → ℕ → Call → List ℕ → Bool
+  announcesIn seq u Open records = false
+  announcesIn seq u (Broadcast given out) records = after (calls-broadcast.broadcast (config u) given records out) (λ k. eqb k seq) false
+  announcesIn seq u (Receive bundle out) records = false
+
   unfoldable pub announces : ℕ → List ℕ → ℕ → Call → List ℕ → Bool
   announces seq content u Open records = false
-  announces seq content u (Broadcast given out) records =
-      after (calls-broadcast.broadcast (config u) given records out) (λ k. eqb k seq && same given content) false
+  announces seq content u (Broadcast given out) records = announcesIn seq u (Broadcast given out) records && same given content
   announces seq content u (Receive bundle out) records = false
 
   -- "It delivers a body in a slot when taking is answered delivered; slot and body are those of the bundle given."
@@ -150,14 +154,14 @@ module _ (s : System) where
       → (v : ℕ) → correct v ≡ true → member (h .signers) v ≡ true
       → ever (signs (h .sender) (h .seq) (payload (config u) bundle)) earlier v ≡ true
 
-  -- "Each call is at one sound unit, with that unit's table and its own record buffer, of the right length"; "each unit called opens the day first,
-  -- and once only": a call is an opening where no call was at that unit before, and only there.
+  -- "Each call is at one sound unit, with that unit's table and its own record buffer, of the right length and with any content before the opening";
+  -- "each unit called opens the day first, and once only": a call is an opening where no call was at that unit before, and only there.
   abbrev pub Lawful : Trace Call → Type 0
   Lawful start = Unit
   Lawful (earlier then u calls call) =
       Lawful earlier
       × (correct u ≡ true)
-      × (length (buffer earlier u) ≡ recordsSize (config u))
+      × (length (s .buffers u) ≡ recordsSize (config u))
       × (opens u call (buffer earlier u) ≡ not (called earlier u))
       × Unforged earlier u call
 
@@ -189,6 +193,10 @@ module _ (s : System) where
         → ever (delivers sender seq content) list u ≡ true
         → ever (announces seq content) list sender ≡ true
 
+    -- "the one its sender announced there": a sound unit announces at most one body in a slot
+    abbrev pub Single : Type 0
+    Single = (u seq : ℕ) → correct u ≡ true → times (announcesIn seq) list u ≤ 1
+
     -- "and each sound unit has sent at most two bundles per slot."
     abbrev pub Twice : Type 0
     Twice = (u sender seq : ℕ) → correct u ≡ true → times (sendsIn sender seq) list u ≤ 2
@@ -208,6 +216,7 @@ module _ (s : System) where
       pub agreement : Agreement
       pub once : Once
       pub validity : Validity
+      pub single : Single
       pub twice : Twice
       pub delivery : Reached → Delivery
 
