@@ -1,12 +1,14 @@
 -- Document 01, "Calls", announcing: "Announcing uses the lowest of our numbers whose record is empty. .. It stores the body as held with our
 -- bit alone, writes that bundle out and answers with the number."
 -- Assumes nothing.
+use mathlib.Core.Path.{_≡_}
 use mathlib.Core.Bool.{not, cond}
 use mathlib.Core.List.{List, [], _∷_}
-use Prim.Native.Nat.{ℕ, zero, suc}
+use Prim.Native.Nat.{ℕ, zero, suc, _<_}
 use lib.Dec.{eqb}
 use lib.ListN.{length}
 use Rattle.octets.specs.Octets.{blank}
+use Rattle.signers.specs.Signers as signers
 use Rattle.signers.specs.Signers.{insert}
 use Rattle.refusal.specs.Refusal.{numberOf}
 use Rattle.refusal.specs.Outcome.{Outcome, refused, done, Reason, _if_, after, checked, _and-then_}
@@ -14,7 +16,7 @@ use Rattle.config.specs.declared.Config.{Config}
 use Rattle.config.specs.Config.{good, slots}
 use Rattle.bundle.specs.declared.Header.{Header}
 use Rattle.bundle.specs.Bundle.{size, payloadSize, bundleOf}
-use Rattle.protocol.specs.Slot.{announcedBy}
+use Rattle.protocol.specs.Slot.{signersOf, announcedBy}
 use Rattle.record.specs.Record.{image, wellFormed}
 use Rattle.calls.specs.Records.{recordAt, stored, wrongSize}
 use Rattle.calls.specs.declared.Announcement.{Announcement}
@@ -61,3 +63,8 @@ announcementOf (Refused reason) = refused (numberOf reason)
 abbrev pub announcementCount : Announcement → ℕ
 announcementCount (Announced seq) = 1
 announcementCount (Refused reason) = 0
+
+-- it is the number of signers in the record that announcing stores, as for a receipt: "The answer also has the number of signers in the record
+-- afterwards."
+abbrev pub AnnouncedCounts : Type 0
+AnnouncedCounts = (own seq : ℕ) (payload : List ℕ) → own < 64 → announcementCount (Announced seq) ≡ signers.size (signersOf (announcedBy own payload))

@@ -13,7 +13,7 @@ use Rattle.refusal.specs.declared.Verdict.{Verdict}
 use Rattle.refusal.specs.declared.Verdict.the-variants.{Done, Refused}
 
 -- the reasons by their numbers; a number of none stands for the first
-byNumber : List Refusal
+unfoldable pub byNumber : List Refusal
 byNumber =
     BadConfig
     ∷ BadConfig
@@ -37,7 +37,7 @@ byNumber =
     ∷ []))
 
 -- the reason of a number
-pub reasonOf : ℕ → Refusal
+unfoldable pub reasonOf : ℕ → Refusal
 reasonOf number = getD byNumber number BadConfig
 
 pub found : (r : Refusal) → reasonOf (numberOf r) ≡ r

@@ -6,12 +6,14 @@ use mathlib.Core.Bool.{false}
 use mathlib.Core.List.{List, [], _∷_, List·Memᴰ}
 use Prim.Native.Nat.{ℕ, suc}
 use lib.ListN.{replicate}
-use Rattle.refusal.specs.Outcome.{Outcome, refused, done, _and-then_}
+use Rattle.refusal.specs.Refusal.{numberOf}
+use Rattle.refusal.specs.Outcome.{done, _and-then_}
 use Rattle.bundle.specs.Bundle.{size, bundleOf}
-use Rattle.protocol.specs.Slot.{Answer, announced, kept, signed, delivered}
 use Rattle.protocol.specs.Trace.{Trace, start, _then_calls_}
-use Rattle.calls.specs.Broadcast.{broadcast}
-use Rattle.calls.specs.Receive.{receive, reported}
+use Rattle.calls.specs.declared.Announcement as Announcement
+use Rattle.calls.specs.declared.Receipt as Receipt
+use Rattle.calls.specs.Broadcast.{broadcast, announcementOf, announcementCount}
+use Rattle.calls.specs.Receive.{receive, reported, receiptOf, receiptCount}
 use Rattle.system.specs.Demand3.{Call, Open, Broadcast, Receive, System, config, buffer}
 
 -- "4 1 0 7"; nobody is faulty, and a record buffer has no zero byte before the opening
@@ -42,11 +44,6 @@ abbrev pub callOf : Step → Call
 callOf A = Broadcast content lent
 callOf (B signers) = Receive (handed signers) lent
 
--- what a step answers at node u, which finds the buffer `records`: an announcement has one signer, a receipt what it reports
-unfoldable pub answered : ℕ → Step → List ℕ → Outcome (Answer × ℕ)
-answered u A records = broadcast (config played u) content records lent and-then λ seq. done (announced, 1)
-answered u (B signers) records = receive (config played u) (handed signers) records lent and-then λ turn. done (reported turn)
-
 -- "the answer's word or "refused", the refusal or 0, and the count"
 pub data Word : Type 0 where
   Announced Kept Signed Delivered Refused : Word
@@ -56,15 +53,16 @@ pub data Row : Type 0 where
   row : (answer : Word) (reason count : ℕ) → Row
   deriving Discrete as Row-discrete
 
-abbrev pub wordOf : Answer → Word
-wordOf announced = Announced
-wordOf kept = Kept
-wordOf signed = Signed
-wordOf delivered = Delivered
+-- the row of each answer; its count is the one that goes with the answer
+abbrev pub announcementRow : Announcement.Announcement → Row
+announcementRow (Announcement.the-variants.Announced seq) = row Announced 0 (announcementCount (Announcement.the-variants.Announced seq))
+announcementRow (Announcement.the-variants.Refused reason) = row Refused (numberOf reason) (announcementCount (Announcement.the-variants.Refused reason))
 
-abbrev pub rowOf : Outcome (Answer × ℕ) → Row
-rowOf (refused number) = row Refused number 0
-rowOf (done told) = row (wordOf (told .0)) 0 (told .1)
+abbrev pub receiptRow : Receipt.Receipt → Row
+receiptRow (Receipt.the-variants.Kept count) = row Kept 0 (receiptCount (Receipt.the-variants.Kept count))
+receiptRow (Receipt.the-variants.Signed count) = row Signed 0 (receiptCount (Receipt.the-variants.Signed count))
+receiptRow (Receipt.the-variants.Delivered count) = row Delivered 0 (receiptCount (Receipt.the-variants.Delivered count))
+receiptRow (Receipt.the-variants.Refused reason) = row Refused (numberOf reason) (receiptCount (Receipt.the-variants.Refused reason))
 
 -- a step with the unit it is at and the row printed for it
 abbrev pub printed : ℕ → Step → Word → ℕ → ℕ → ℕ × Step × Row
@@ -100,6 +98,17 @@ follow place before (x ∷ rest) =
 unfoldable pub lines : List Line
 lines = follow 1 (start then 0 calls Open then 1 calls Open then 2 calls Open then 3 calls Open) steps
 
--- each line has the row that its step answers
+-- a step at node u, which finds the buffer `records`: every answer that the contract of its call allows has the row `shown`
+abbrev pub Shows : ℕ → Step → List ℕ → Row → Type 0
+Shows u A records shown = (a : Announcement.Announcement) → announcementOf a ≡ broadcast (config played u) content records lent → announcementRow a ≡ shown
+Shows u (B signers) records shown =
+    (a : Receipt.Receipt) → receiptOf a ≡ (receive (config played u) (handed signers) records lent and-then λ turn. done (reported turn))
+    → receiptRow a ≡ shown
+
+-- a line holds if its step, after the calls before it, shows the line's row
+abbrev pub Prints : Line → Type 0
+Prints l = Shows (l .node) (l .step) (buffer played (l .before) (l .node)) (l .row)
+
+-- each of the seven lines holds
 abbrev pub LinesHold : Type 0
-LinesHold = (l : Line) → List·Memᴰ l lines → rowOf (answered (l .node) (l .step) (buffer played (l .before) (l .node))) ≡ l .row
+LinesHold = (l : Line) → List·Memᴰ l lines → Prints l
