@@ -4,13 +4,15 @@ use mathlib.Core.Path.{_≡_, _∙_, sym, ap}
 use mathlib.Core.Bool.{true, false, and-eq-true-iff}
 use mathlib.Core.List.{List, []}
 use Prim.Native.Nat.{ℕ}
-use borrow.Author.Tests.{eqb-true, eq-eqb, ne-eqb, not-false}
+use native.Mathlib.Omega.{arith}
+use borrow.Author.Tests.{eqb-true, eq-eqb, ne-eqb, not-true, not-false}
 use lib.ListN.{length, getD}
 use Rattle.octets.specs.Octets.{part}
+use Rattle.signers.specs.Signers.{member}
 use Rattle.refusal.specs.Outcome.{refused, done, unless}
 use Rattle.refusal.specs.Refusal.{numberOf}
 use Rattle.refusal.proofs.Unique.{number-one, refused-number}
-use Rattle.refusal.proofs.Reasons.{passed, refused-not-done, Clear, pass, stop, done-clear, clear-done, append-clear, clear-append, refused-first, done-first}
+use Rattle.refusal.proofs.Reasons.{passed, refused-not-done, Clear, pass, stop, done-clear, clear-done, append-clear, clear-append, refused-first, done-first, refused-later, refused-last}
 use Rattle.config.specs.declared.Config.{Config}
 use Rattle.config.specs.Config.{good}
 use Rattle.bundle.specs.declared.Header.{Header}
@@ -124,3 +126,17 @@ module _ (w : Config) (h : Header) (payload out : List ℕ) where
       ∙ done-first _ _ _ (headerReasons w h) tt e
       ∙ pass 9 _ _ (passed (eq-eqb _ _ l))
       ∙ stop 10 _ _ (rw (ne-eqb _ _ r))
+
+-- a bundle that reading refuses by 8 lacks its sender's signature
+pub unsigned-says : (w : Config) (bundle : List ℕ) → read w bundle ≡ refused 8 → member (headerOf bundle .signers) (headerOf bundle .sender) ≡ false
+unfolding read readReasons headerReasons
+unsigned-says w bundle e =
+    not-true _
+    (refused-last 8 _ _
+    (refused-later 7 8 _ _ _ (λ q. omega arith)
+    (refused-later 6 8 _ _ _ (λ q. omega arith)
+    (refused-later 5 8 _ _ _ (λ q. omega arith)
+    (refused-later 4 8 _ _ _ (λ q. omega arith)
+    (refused-later 3 8 _ _ _ (λ q. omega arith)
+    (refused-later 2 8 _ _ _ (λ q. omega arith)
+    (refused-later 1 8 _ _ _ (λ q. omega arith) e))))))))

@@ -5,12 +5,14 @@ use mathlib.Core.Bool.{true, cond}
 use mathlib.Core.List.{List}
 use Prim.Native.Nat.{ℕ, _<_}
 use lib.ListN.{length, replicate}
+use Rattle.octets.specs.Octets.{part}
 use Rattle.octets.proofs.Same.{blank-says}
 use Rattle.refusal.specs.Outcome.{done}
 use Rattle.config.specs.declared.Config.{Config}
 use Rattle.config.specs.Config.{good, quorum, slots, recordSize, recordsSize}
 use Rattle.config.proofs.Laws.{good-says, quorum-strict}
-use Rattle.bundle.specs.Bundle.{headerOf, payload}
+use Rattle.bundle.specs.Bundle.{payloadStart, payloadSize, headerOf, payload}
+use Rattle.bundle.proofs.Accepted.{unsigned-says}
 use Rattle.protocol.specs.Slot.{Record, Empty, sends, Turn, announcedBy}
 use Rattle.protocol.specs.Algorithm as algorithm
 use Rattle.protocol.proofs.Sound.{Sound, sound-bundled, announced-sound}
@@ -20,9 +22,9 @@ use Rattle.record.proofs.Image.{recordIn-image, image-length}
 use Rattle.calls.specs.Records.{recordAt, stored}
 use Rattle.calls.specs.Open.{openRecords}
 use Rattle.calls.specs.Receive.{recordBundle, receive, receiveRecords, receiveOut}
-use Rattle.calls.specs.Algorithm.{recordOf, OpenStarts, BroadcastFollows, ReceiveFollows}
+use Rattle.calls.specs.Algorithm.{recordOf, OpenStarts, BroadcastFollows, UnsignedFollows, ReceiveFollows}
 use Rattle.calls.proofs.Records.{recordAt-length, stored-there, zeros-at}
-use Rattle.calls.proofs.Refusals.{opened-done, broadcast-effect, receive-left, receive-updated}
+use Rattle.calls.proofs.Refusals.{opened-done, broadcast-effect, receive-left, receive-unread, receive-updated}
 use Rattle.calls.proofs.Found.{broadcast-done}
 use Rattle.calls.proofs.Taking.{read-says}
 use Rattle.calls.proofs.Settled.{turn-sound}
@@ -58,6 +60,12 @@ broadcast-follows w content records out seq e =
     ∙ record-stored w records (w .own) seq (announcedBy (w .own) content) (ok .configured) (ok .sized) (g .known) (ok .slot)
     (announced-sound (w .n) (quorum w) (w .own) content (g .known) (g .most) (ok .whole)) in
     (ap recordIn zeros ∙ empty-zeros, rw after state, effects, sym out-left)
+
+pub unsigned-follows : UnsignedFollows
+unsigned-follows w bundle records out σ e =
+    let (state, effects) = values.unsigned-ignored (w .n) (w .t) (w .own) (headerOf bundle .sender) (headerOf bundle .signers) (part payloadStart payloadSize bundle) σ
+    (unsigned-says w bundle e) in
+    (receive-unread w bundle records out 8 e, state, effects)
 
 pub receive-follows : ReceiveFollows
 receive-follows w bundle records out h e o l sound =

@@ -25,7 +25,7 @@ use Rattle.calls.specs.Open.{openRecords}
 use Rattle.calls.specs.Broadcast.{broadcast, broadcastRecords}
 use Rattle.calls.specs.Receive.{receive, receiveRecords}
 use Rattle.calls.specs.Delivered.{delivered, deliveredPart}
-use Rattle.calls.specs.Kept.{AllSound, CallsKeepSound, DeliveredIsShown, ShownStays}
+use Rattle.calls.specs.Kept.{AllSound, SameShown, CallsKeepSound, DeliveredIsShown, ShownStays}
 use Rattle.calls.proofs.Room.{range-says}
 use Rattle.calls.proofs.Records.{stored-length, stored-there, stored-elsewhere, zeros-at}
 use Rattle.calls.proofs.Refusals.{opened-done, broadcast-effect, broadcast-no-effect, receive-left, receive-no-effect, receive-unread, receive-updated, delivered-done, delivered-says, delivered-record}
@@ -77,16 +77,15 @@ module _ (w : Config) (records : List ℕ) (g : good w ≡ true) (l : length rec
 
   -- what is shown stays: a slot that is delivered is not the one stored
   left-shown : (after : List ℕ) → Left w records after → (a b start : ℕ) → delivered w a b records ≡ done start
-      → deliveredPart w a b after ≡ deliveredPart w a b records
-  left-shown after (same-left e) a b start d = ap (deliveredPart w a b) (sym e)
+      → SameShown w a b after records
+  left-shown after (same-left e) a b start d = subst (λ (xs : List ℕ). SameShown w a b xs records) e (refl, refl)
   left-shown after (one-left sender seq r hs hk fine fresh e) a b start d =
       let (ha, hb) = range-says w a b (delivered-says w a b records start d .1) in
-      ap (deliveredPart w a b) e
-      ∙ delivered-depends w a b (stored w sender seq (image r) records) records
+      subst (λ (xs : List ℕ). SameShown w a b xs records) (sym e)
+      (delivered-depends w a b (stored w sender seq (image r) records) records
       (stored-length w g records l sender seq hs hk (image r) (sound-length w sender r fine))
       (stored-elsewhere w g records l sender seq hs hk (image r) (sound-length w sender r fine) a b ha hb
-      (λ p q. true≢false (sym (delivered-record w a b records start d) ∙ rw (p, q) fresh)))
-      .1
+      (λ p q. true≢false (sym (delivered-record w a b records start d) ∙ rw (p, q) fresh))))
 
 -- ---- what each call leaves
 

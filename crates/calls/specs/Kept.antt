@@ -22,8 +22,13 @@ use Rattle.calls.specs.Delivered.{delivered, deliveredPart}
 abbrev pub AllSound : Config → List ℕ → Type 0
 AllSound w records = (sender seq : ℕ) → sender < w .n → seq < slots → wellFormed w sender (recordAt w sender seq records) ≡ true
 
--- Opening makes every record sound, and announcing and taking leave every record sound that was, in a buffer of its length. So 21 is never given
--- to a node that opened its day.
+-- two buffers in which a slot is shown alike
+abbrev pub SameShown : Config → ℕ → ℕ → List ℕ → List ℕ → Type 0
+SameShown w sender seq first second =
+    (delivered w sender seq first ≡ delivered w sender seq second) × (deliveredPart w sender seq first ≡ deliveredPart w sender seq second)
+
+-- Opening makes every record sound, and announcing and taking leave every record sound that was, in a buffer of its length: at a node that opened its
+-- day 21 has no cause.
 abbrev pub CallsKeepSound : Type 0
 CallsKeepSound =
     (w : Config) (records : List ℕ) → good w ≡ true → length records ≡ recordsSize w
@@ -41,9 +46,9 @@ DeliveredIsShown =
     → (delivered w (h .sender) (h .seq) (receiveRecords w bundle records out) ≡ done (place w (h .sender) (h .seq) + payloadAt))
     × (deliveredPart w (h .sender) (h .seq) (receiveRecords w bundle records out) ≡ payload w bundle)
 
--- And it stays shown: announcing and taking leave what showing gives.
+-- And it stays shown: announcing and taking leave what showing answers and gives.
 abbrev pub ShownStays : Type 0
 ShownStays =
     (w : Config) (records : List ℕ) (sender seq start : ℕ) → delivered w sender seq records ≡ done start
-    → ((content out : List ℕ) → deliveredPart w sender seq (broadcastRecords w content records out) ≡ deliveredPart w sender seq records)
-    × ((bundle out : List ℕ) → deliveredPart w sender seq (receiveRecords w bundle records out) ≡ deliveredPart w sender seq records)
+    → ((content out : List ℕ) → SameShown w sender seq (broadcastRecords w content records out) records)
+    × ((bundle out : List ℕ) → SameShown w sender seq (receiveRecords w bundle records out) records)

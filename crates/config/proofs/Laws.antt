@@ -1,5 +1,6 @@
--- What `good` says, and what of the quorum the protocol's argument rests on. Callers go by these laws and not by the formulas,
--- so that another quorum, chosen within the same bounds, proves them anew here alone.
+-- What `good` says, and what of the quorum the protocol's argument rests on. Callers go by these laws and not by the formulas.
+-- The protocol's argument rests on `quorum-intersects` and `quorum-reachable` alone, which another quorum within the same bounds would meet;
+-- `quorum-strict` is about the source's own quorum.
 -- Assumes nothing.
 use mathlib.Core.Path.{_≡_, _∙_, refl, ap}
 use mathlib.Core.Bool.{Bool, true, false, and-eq-true-iff}

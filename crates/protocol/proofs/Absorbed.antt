@@ -1,5 +1,5 @@
--- What a bundle that was handed to a correct node leaves behind, taken or refused: the record is delivered, or it is held, with fewer than q signers
--- as the bundle has, and has every signer of the bundle if the payload is the same. Assumes nothing.
+-- What a bundle that was handed to a correct node leaves behind, taken or refused: the record is delivered, or it is held. Then it and the
+-- bundle have fewer than q signers each, and it has every signer of the bundle if the payload is the same. Assumes nothing.
 use mathlib.Core.Path.{_≡_, sym, _∙_}
 use mathlib.Core.Logic.{_⊎_, inl, inr}
 use mathlib.Core.Bool.{true, true≢false, false≢true}

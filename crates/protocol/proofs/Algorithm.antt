@@ -15,7 +15,7 @@ use Rattle.signers.specs.Signers.{member, insert, union, size}
 use Rattle.signers.proofs.Members.{nobody}
 use Rattle.refusal.specs.Outcome.{unless}
 use Rattle.protocol.specs.Slot.{Record, Empty, Held, Delivered, isEmpty, Turn, kept, signed, delivered, announcedBy, updateReasons, gathered, updated, update}
-use Rattle.protocol.specs.Algorithm.{State, Run, save, sign, bundleEffect, onBroadcast, line9, line5, andLine9, onBundle, keepOne, sendOnce, stateOf, effectsOf, SameState, BroadcastFollows, Follows, UpdateFollows}
+use Rattle.protocol.specs.Algorithm.{State, Run, save, sign, bundleEffect, onBroadcast, line9, line5, andLine9, onBundle, keepOne, sendOnce, stateOf, effectsOf, SameState, BroadcastFollows, Follows, UnsignedIgnored, UpdateFollows}
 
 -- ---- words and messages
 
@@ -83,13 +83,19 @@ module _ (n t own sender q sigs : ℕ) (m : List ℕ) (r : Record) (quorum : (k 
   unfolding line9
   enough σ e f = rw (e, ← (quorum (size sigs)), le-leb q (size sigs) (ltb-false (size sigs) q f))
 
+-- without its sender's signature a bundle does not pass line 3
+pub unsigned-ignored : UnsignedIgnored
+unfolding onBundle
+unsigned-ignored n t own sender sigs m σ e =
+    rw (e, and-false (not (σ .hasDelivered))) (record { alike = λ x. refl; signed-alike = refl; delivered-alike = refl }, refl)
+
 -- Empty: 23, or lines 4 to 12. Held: this message, and lines 4 and 9 to 12; or another, and 23, 24, or a full quorum at once. Delivered: 22.
 pub update-follows : UpdateFollows
 unfolding update updateReasons unless gathered onBundle line5 andLine9 save sign stateOf keepOne bundleEffect
 update-follows n t own sender q sigs m Empty quorum present = go (member sigs own) refl
   where
     go : (ours : Bool) → member sigs own ≡ ours → Follows n t own sender sigs m Empty (update own q sigs m Empty)
-    go true e = rw e (inr (inl (refl, e, nobody own)))
+    go true e = rw e (inr (inl (refl, refl, e, nobody own)))
     go false e =
         let saved = sign own m (save m sigs (stateOf Empty)) in
         rw (e, present) (refl, refl, gathers n t own sender q sigs m Empty quorum saved (rw (same-self m) (one-joined sigs own)) refl refl)
@@ -107,11 +113,11 @@ update-follows n t own sender q sigs m (Held s p) quorum present = go (same p m)
         → Follows n t own sender sigs m (Held s p) (update own q sigs m (Held s p))
     go true h ours e few f =
         rw (h, and-false (member sigs own), present) (refl, rw h, gathers n t own sender q sigs m (Held s p) quorum saved (rw (same-self m, h)) refl refl)
-    go false h true e few f = rw (h, e) (inr (inl (refl, e, rw h (nobody own))))
+    go false h true e few f = rw (h, e) (inr (inl (refl, refl, e, rw h (nobody own))))
     go false h false e true f =
         let quiet = too-few n t own sender q sigs m (Held s p) quorum saved (rw (same-self m, h)) f in
         let back : SameState (keepOne p saved) (stateOf (Held s p)) = record { alike = λ x. dropped h x (same p x) refl; signed-alike = refl; delivered-alike = refl } in
-        rw (h, e, f, present, quiet) (inr (inr (refl, rw h, back, refl)))
+        rw (h, e, f, present, quiet) (inr (inr (refl, refl, rw h, back, refl)))
     go false h false e false f =
         let full = enough n t own sender q sigs m (Held s p) quorum saved (rw (same-self m, h)) f in
         rw (h, e, f, present) (refl, rw h (ap not full), gathers n t own sender q sigs m (Held s p) quorum saved (rw (same-self m, h)) refl refl)

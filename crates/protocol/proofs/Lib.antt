@@ -1,5 +1,5 @@
 -- What is shown of the protocol on values: the theorem on one slot, from the laws of traces and turns; that a slot's step is the
--- source's algorithm; and that the theorem's bounds are tight.
+-- source's algorithm; and that two of the theorem's bounds are tight.
 pub mod Traces
 pub mod Turns
 pub mod Sound

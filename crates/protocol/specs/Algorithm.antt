@@ -124,8 +124,9 @@ module _ (n t own sender : ℕ) (sigs : ℕ) (m : List ℕ) (r : Record) where
   -- it is the one held, or the first, or the one delivered. What is sent is what the paper sends with the repeated bundle left out, and what
   -- is delivered is what the paper delivers.
   -- 22: line 3 fails, and the paper does nothing either.
-  -- 23: the bundle has a signature of p_i for m that p_i has not saved, so never made (lines 1 and 6 save each one made): it is not valid, and
-  -- the paper's model has no such bundle.
+  -- 23: the bundle has a signature of p_i for m, and p_i, which has delivered nothing and so dropped none of its own, has not saved one. It never
+  -- made it. A set bit is a signature that the key chip found valid, so where signatures are secure there is no such bundle; the paper would
+  -- pass over an invalid signature and go on, and document 01 refuses the bundle.
   -- 24: the paper saves the signatures for another message (line 4) and does nothing else; we drop them.
   abbrev pub Follows : Outcome Turn → Type 0
   Follows (done turn) =
@@ -134,10 +135,16 @@ module _ (n t own sender : ℕ) (sigs : ℕ) (m : List ℕ) (r : Record) where
       × (SameState (stateOf (turn .after)) (keepOne m (run .state)) × (effectsOf turn ≡ sendOnce (run .effects)))
   Follows (refused number) =
       ((number ≡ 22) × (stateOf r .hasDelivered ≡ true) × SameState (run .state) (stateOf r) × (run .effects ≡ []))
-      ⊎ ((number ≡ 23) × (member sigs own ≡ true) × (member (stateOf r .saved m) own ≡ false))
-      ⊎ ((number ≡ 24) × (holdsOther r m ≡ true) × SameState (keepOne (payloadOf r) (run .state)) (stateOf r) × (run .effects ≡ []))
+      ⊎ ((number ≡ 23) × (isDelivered r ≡ false) × (member sigs own ≡ true) × (member (stateOf r .saved m) own ≡ false))
+      ⊎ ((number ≡ 24) × (isDelivered r ≡ false) × (holdsOther r m ≡ true) × SameState (keepOne (payloadOf r) (run .state)) (stateOf r) × (run .effects ≡ []))
 
--- Taking follows the algorithm, for the paper's quorum and a bundle that has its sender's signature (reading refuses any other: 8).
+-- 8: where the sender's signature is missing line 3 fails, and the paper does nothing.
+abbrev pub UnsignedIgnored : Type 0
+UnsignedIgnored =
+    (n t own sender sigs : ℕ) (m : List ℕ) (σ : State) → member sigs sender ≡ false
+    → SameState (onBundle n t own sender m sigs σ .state) σ × (onBundle n t own sender m sigs σ .effects ≡ [])
+
+-- Taking follows the algorithm, for the paper's quorum and a bundle that has its sender's signature.
 abbrev pub UpdateFollows : Type 0
 UpdateFollows =
     (n t own sender q sigs : ℕ) (m : List ℕ) (r : Record)

@@ -77,6 +77,19 @@ pub no-effect : {A B : Type 0} (outcome : Outcome A) (result : A → B) (before 
     → (refused number ≡ plain outcome) × (before ≡ after outcome result before)
 no-effect outcome result before number e = (rw e, rw e)
 
+-- a refusal by another number comes from the reasons after
+pub refused-later : {A : Type 0} (number other : ℕ) (applies : Bool) (rest : List Reason) (work : A) → (number ≡ other → ⊥)
+    → unless ((number if applies) ∷ rest) work ≡ refused other → unless rest work ≡ refused other
+unfolding unless
+refused-later number other true rest work apart e = absurd (apart cc)
+refused-later number other false rest work apart e = e
+
+-- and one by the last number is that of the last reason
+pub refused-last : {A : Type 0} (number : ℕ) (applies : Bool) (work : A) → unless ((number if applies) ∷ []) work ≡ refused number → applies ≡ true
+unfolding unless
+refused-last number true work e = refl
+refused-last number false work e = absurd (refused-not-done number work (sym e))
+
 -- what is left depends on the result of the work given
 pub after-same : {A B : Type 0} (reasons : List Reason) (work : A) (result other : A → B) (before : B) → result work ≡ other work
     → after (unless reasons work) result before ≡ after (unless reasons work) other before

@@ -109,6 +109,6 @@ Shows u (B signers) records shown =
 abbrev pub Prints : Line → Type 0
 Prints l = Shows (l .node) (l .step) (buffer played (l .before) (l .node)) (l .row)
 
--- each of the seven lines holds
+-- Each of the seven lines holds. That there is an answer which the contract allows is part of the call's proof.
 abbrev pub LinesHold : Type 0
 LinesHold = (l : Line) → List·Memᴰ l lines → Prints l
