@@ -3,7 +3,7 @@
 use mathlib.Core.Path.{_≡_, refl, sym, ap, _∙_, subst}
 use mathlib.Core.Bool.{Bool, true, false, cond, true≢false}
 use mathlib.Core.List.{List}
-use Prim.Native.Nat.{ℕ, _<_}
+use Prim.Native.Nat.{ℕ, _+_, _<_}
 use lib.Dec.{eqb, leb}
 use lib.ListN.{length, length-replicate}
 use borrow.Author.Tests.{eqb-true, eqb-false}
@@ -11,14 +11,14 @@ use Rattle.signers.specs.Signers.{size}
 use Rattle.refusal.specs.Outcome.{Outcome, refused, done, unless}
 use Rattle.refusal.proofs.Reasons.{refused-not-done}
 use Rattle.config.specs.declared.Config.{Config}
-use Rattle.config.specs.Config.{good, quorum, slots, recordSize, recordsSize}
+use Rattle.config.specs.Config.{good, quorum, slots, place, recordSize, recordsSize}
 use Rattle.config.proofs.Laws.{good-says}
 use Rattle.bundle.specs.declared.Header.{Header}
 use Rattle.bundle.specs.Bundle.{read}
-use Rattle.protocol.specs.Slot.{Record, Empty, Held, Delivered, isEmpty, isDelivered, delivers, Turn, announcedBy, updateReasons, gathered, updated, update}
+use Rattle.protocol.specs.Slot.{Record, Empty, Held, Delivered, payloadOf, isEmpty, isDelivered, delivers, Turn, announcedBy, updateReasons, gathered, updated, update}
 use Rattle.protocol.specs.Slot as answers
 use Rattle.protocol.proofs.Sound.{Sound, sound-bundled, announced-sound, update-done, update-payload}
-use Rattle.record.specs.Record.{image, recordIn, wellFormed, payloadIn}
+use Rattle.record.specs.Record.{image, recordIn, wellFormed, payloadIn, payloadAt}
 use Rattle.record.proofs.Image.{recordIn-image, image-length, empty-image, image-wellFormed, image-fields}
 use Rattle.calls.specs.Records.{recordAt, stored}
 use Rattle.calls.specs.Open.{openRecords}
@@ -181,27 +181,36 @@ delivers-record own q signers content r turn e d =
     go false true e = absurd (true≢false (sym e))
     go false false e = absurd (true≢false (sym e))
 
-pub delivered-is-shown : DeliveredIsShown
+-- a delivered record is not empty
+delivered-some : (r : Record) → isDelivered r ≡ true → isEmpty r ≡ false
+delivered-some Empty e = absurd (true≢false (sym e))
+delivered-some (Held signers payload) e = refl
+delivered-some (Delivered signers payload) e = refl
+
+-- a sound record that is delivered is shown: its place, and its payload
+pub record-shown : (w : Config) (sender seq : ℕ) (records : List ℕ) (r : Record) → good w ≡ true → sender < w .n → seq < slots
+    → length records ≡ recordsSize w → recordAt w sender seq records ≡ image r → Sound (w .n) sender (quorum w) (w .own) r → isDelivered r ≡ true
+    → (delivered w sender seq records ≡ done (place w sender seq + payloadAt)) × (deliveredPart w sender seq records ≡ payloadOf r)
 unfolding deliveredPart
+record-shown w sender seq records r g hs hk l there fine d =
+    let most = good-says w g .most in
+    let shown =
+    delivered-done w sender seq records g hs hk l (ap (wellFormed w sender) there ∙ image-wellFormed w sender most r fine)
+    (ap (λ (xs : List ℕ). isDelivered (recordIn xs)) there ∙ ap isDelivered (recordIn-image (w .n) sender (quorum w) (w .own) most r fine) ∙ d) in (
+      shown,
+      rw shown
+          (shown-part w sender seq records ∙ ap payloadIn there ∙ image-fields (w .n) sender (quorum w) (w .own) most r (delivered-some r d) fine .1),
+    )
+
+pub delivered-is-shown : DeliveredIsShown
 delivered-is-shown w bundle records out h turn e f d =
     let ok = read-says w bundle h e in
-    let most = good-says w (ok .configured) .most in
     let (room, long, stepped, sound) = receive-done w bundle records out h e turn f in
     let (some, fine) = receive-stores w bundle records out h e turn f in
     let there : recordAt w (h .sender) (h .seq) (receiveRecords w bundle records out) ≡ image (turn .after) =
     ap (recordAt w (h .sender) (h .seq)) (receive-leaves w bundle records out h e turn f)
     ∙ stored-there w (ok .configured) records long (h .sender) (h .seq) (ok .sender-known) (ok .slot) (image (turn .after)) (sound-length w (h .sender) (turn .after) fine) in
-    let shown =
-    delivered-done w (h .sender) (h .seq) (receiveRecords w bundle records out) (ok .configured) (ok .sender-known) (ok .slot)
-    (left-length w records (ok .configured) long _ (receive-left-one w bundle records out) ∙ long)
-    (ap (wellFormed w (h .sender)) there ∙ image-wellFormed w (h .sender) most (turn .after) fine)
-    (ap (λ (xs : List ℕ). isDelivered (recordIn xs)) there
-    ∙ ap isDelivered (recordIn-image (w .n) (h .sender) (quorum w) (w .own) most (turn .after) fine)
-    ∙ delivers-record _ _ _ _ _ turn stepped d) in (
-      shown,
-      rw shown
-          (shown-part w (h .sender) (h .seq) (receiveRecords w bundle records out)
-          ∙ ap payloadIn there
-          ∙ image-fields (w .n) (h .sender) (quorum w) (w .own) most (turn .after) some fine .1
-          ∙ update-payload _ _ _ _ _ turn stepped .1),
-    )
+    let (shown, same) =
+    record-shown w (h .sender) (h .seq) (receiveRecords w bundle records out) (turn .after) (ok .configured) (ok .sender-known) (ok .slot)
+    (left-length w records (ok .configured) long _ (receive-left-one w bundle records out) ∙ long) there fine (delivers-record _ _ _ _ _ turn stepped d) in
+    (shown, same ∙ update-payload _ _ _ _ _ turn stepped .1)

@@ -64,10 +64,10 @@ module _ (s : System) where
 
 module _ (theorem : OneSlotHolds) (s : System) (list : Trace Call) (assumed : Assumed s list) (sender seq : ℕ) (range : InRange s sender seq) where
   -- the quorum, the acts in the slot, and that each call matches its act
-  abbrev q : ℕ
+  abbrev pub q : ℕ
   q = quorumOf s
 
-  abbrev happened : Trace Act
+  abbrev pub happened : Trace Act
   happened = acts s sender seq list
 
   matched : AllMatched s sender seq list
@@ -125,11 +125,11 @@ module _ (theorem : OneSlotHolds) (s : System) (list : Trace Call) (assumed : As
       times-forth (s .buffers) (recordsAfter s) (λ node. Empty) (next q) (act s sender seq) (Match s sender seq) test u asks h list matched
 
   -- delivering and announcing on the list are delivering and announcing on values
-  delivered-forth : (content : List ℕ) (u : ℕ) → ever s (delivers s sender seq content) list u ≡ true → somewhere q (deliveringThis q content) happened u ≡ true
+  pub delivered-forth : (content : List ℕ) (u : ℕ) → ever s (delivers s sender seq content) list u ≡ true → somewhere q (deliveringThis q content) happened u ≡ true
   delivered-forth content u =
       forth (delivers s sender seq content) (deliveringThis q content) u (λ call records r. delivers-forth s sender seq u call records r content)
 
-  delivered-back : (content : List ℕ) (u : ℕ) → somewhere q (deliveringThis q content) happened u ≡ true → ever s (delivers s sender seq content) list u ≡ true
+  pub delivered-back : (content : List ℕ) (u : ℕ) → somewhere q (deliveringThis q content) happened u ≡ true → ever s (delivers s sender seq content) list u ≡ true
   delivered-back content u =
       back (delivers s sender seq content) (deliveringThis q content) u (λ call records r. delivers-back s sender seq u call records r content)
 
@@ -192,7 +192,7 @@ module _ (theorem : OneSlotHolds) (s : System) (list : Trace Call) (assumed : As
 
 module _ (s : System) (list : Trace Call) (u sender seq : ℕ) where
   -- a slot in which something is delivered, or the sender announced, is in range
-  delivered-range : (content : List ℕ) → ever s (delivers s sender seq content) list u ≡ true → InRange s sender seq
+  pub delivered-range : (content : List ℕ) → ever s (delivers s sender seq content) list u ≡ true → InRange s sender seq
   delivered-range content =
       ever-says (s .buffers) (recordsAfter s) (delivers s sender seq content) u
       (λ call records e. delivers-range s u sender seq call records (delivers-in s sender seq content u call records e)) list

@@ -7,6 +7,7 @@ pub mod Tests
 pub mod Ranges
 pub mod Slots
 pub mod Demand3
+pub mod Shown
 pub mod Computing
 pub mod Tested
 pub mod Example

@@ -124,6 +124,10 @@ module _ (s : System) (sender seq : ℕ) where
     pub lawful-matched : (list : Trace Call) → Lawful s list → AllMatched list
     lawful-matched list lawful = lawful-keeps list lawful .0
 
+    -- and at its end a node that was called has the record in its bytes
+    pub lawful-holds : (list : Trace Call) → Lawful s list → (u : ℕ) → called s list u ≡ true → Holds s sender seq u (buffer s list u) (recordOf list u)
+    lawful-holds list lawful u = lawful-keeps list lawful .1 u .opened
+
     -- the acts of a lawful list are lawful: a signature that a call may show was made by a call, and so by an act
     abbrev LawfulActs : Trace Act → Type 0
     LawfulActs = one-slot.Lawful (s .shared .n) (quorumOf s) sender (s .faulty)
