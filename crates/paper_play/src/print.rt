@@ -2,17 +2,17 @@
 use libc::STDOUT_FILENO;
 
 // Writes the bytes as they are.
-pub fn text(bytes: &[u8]) {
+pub(crate) fn text(bytes: &[u8]) {
     io::write_all(STDOUT_FILENO, bytes);
 }
 
 // Writes a number in decimal.
-pub fn decimal(x: u64) {
+pub(crate) fn decimal(x: u64) {
     io::print_decimal(STDOUT_FILENO, x);
 }
 
 // A bundle in hexadecimal: day, sender, number and two zero bytes, then signers, then payload.
-pub fn bundle_hex(bundle: &[u8]) {
+pub(crate) fn bundle_hex(bundle: &[u8]) {
     if bundle.len() == 32 {
         word_hex(&bundle[0..8]);
         word_hex(&bundle[8..16]);
@@ -21,7 +21,7 @@ pub fn bundle_hex(bundle: &[u8]) {
 }
 
 // A payload in hexadecimal.
-pub fn payload_hex(payload: &[u8]) {
+pub(crate) fn payload_hex(payload: &[u8]) {
     if payload.len() == 16 {
         word_hex(&payload[0..8]);
         word_hex(&payload[8..16]);

@@ -14,7 +14,7 @@ use refusal::Verdict;
 
 // On the records that the run left: `held` of node 1, which holds node 0's payload, and `done` of node 2, which
 // delivered it. The bundle is the one that node 0 announced.
-pub fn all(held: [u8; 2048], done: [u8; 2048], bundle: [u8; 32]) {
+pub(crate) fn all(held: [u8; 2048], done: [u8; 2048], bundle: [u8; 32]) {
     text(b"refused: call, reason, records and outgoing bytes\n");
     open_reasons(held);
     broadcast_reasons(held);
