@@ -58,7 +58,7 @@ UnsignedFollows =
     × algorithm.SameState (onBytes w bundle σ .state) σ
     × (onBytes w bundle σ .effects ≡ [])
 
--- A taking that reading (1-8) and document 01's own refusals (10, 20, 21) let pass follows the algorithm: done, or refused by 22, 23 or 24. Where it is done,
+-- A receive that reading (1-8) and document 01's own refusals (10, 20, 21) let pass follows the algorithm: done, or refused by 22, 23 or 24. Where it is done,
 -- the record stored is the one of the turn, and the bytes sent are the turn's bundle, if it sends.
 abbrev pub ReceiveFollows : Type 0
 ReceiveFollows =

@@ -27,8 +27,8 @@ abbrev pub SameShown : Config → ℕ → ℕ → List ℕ → List ℕ → Type
 SameShown w sender seq first second =
     (delivered w sender seq first ≡ delivered w sender seq second) × (deliveredPart w sender seq first ≡ deliveredPart w sender seq second)
 
--- Opening makes every record sound, and announcing and taking leave every record sound that was, in a buffer of its length: at a node that opened its
--- day 21 has no cause.
+-- Opening makes every record sound, document 01's word for well-formed, and broadcasting and receiving leave every record sound that was, in a
+-- buffer of its length: at a node that opened its day 21 has no cause.
 abbrev pub CallsKeepSound : Type 0
 CallsKeepSound =
     (w : Config) (records : List ℕ) → good w ≡ true → length records ≡ recordsSize w
@@ -38,7 +38,7 @@ CallsKeepSound =
     × ((bundle out : List ℕ) → AllSound w records
     → AllSound w (receiveRecords w bundle records out) × (length (receiveRecords w bundle records out) ≡ length records))
 
--- "Showing gives the delivered body": behind a taking that is answered delivered, showing its slot gives the payload of the bundle given.
+-- "Showing gives the delivered body": after a receive that is answered delivered, showing its slot gives the payload of the bundle given.
 abbrev pub DeliveredIsShown : Type 0
 DeliveredIsShown =
     (w : Config) (bundle records out : List ℕ) (h : Header) (turn : Turn)
@@ -46,7 +46,7 @@ DeliveredIsShown =
     → (delivered w (h .sender) (h .seq) (receiveRecords w bundle records out) ≡ done (place w (h .sender) (h .seq) + payloadAt))
     × (deliveredPart w (h .sender) (h .seq) (receiveRecords w bundle records out) ≡ payload w bundle)
 
--- And it stays shown: announcing and taking leave what showing answers and gives.
+-- And it stays shown: broadcasting and receiving leave what showing answers and gives.
 abbrev pub ShownStays : Type 0
 ShownStays =
     (w : Config) (records : List ℕ) (sender seq start : ℕ) → delivered w sender seq records ≡ done start

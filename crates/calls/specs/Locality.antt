@@ -33,7 +33,7 @@ BroadcastChanges =
     (w : Config) (content records out : List ℕ) (seq : ℕ) → broadcast w content records out ≡ done seq
     → OnlyRecord w (w .own) seq records (broadcastRecords w content records out)
 
--- refused or done, a taking changes nothing but the record of the bundle's slot
+-- refused or done, receiving changes nothing but the record of the bundle's slot
 abbrev pub ReceiveChanges : Type 0
 ReceiveChanges =
     (w : Config) (bundle records out : List ℕ)
@@ -45,7 +45,7 @@ ReceiveChanges =
 abbrev pub OpenDepends : Type 0
 OpenDepends = (w : Config) (records others : List ℕ) → length records ≡ length others → plain (opened w records) ≡ plain (opened w others)
 
--- Taking: the table, the bundle, the slot's record and the lengths. The outcome has the answer and the record afterwards, so the count and the
+-- Receiving: the table, the bundle, the slot's record and the lengths. The outcome has the answer and the record afterwards, so the count and the
 -- bytes stored too; what is sent is the same over any outgoing bytes.
 abbrev pub ReceiveDepends : Type 0
 ReceiveDepends =
@@ -60,7 +60,7 @@ ReceiveDepends =
 abbrev pub ends : Config → List ℕ → Bool
 ends w bytes = blank bytes || not (wellFormed w (w .own) bytes)
 
--- Announcing: besides, our records up to the first at which the search ends, whether it is used or refused
+-- Broadcasting: besides, our records up to the first at which the search ends, whether it is used or refused
 abbrev pub BroadcastDepends : Type 0
 BroadcastDepends =
     (w : Config) (content records others out other : List ℕ) (last : ℕ)

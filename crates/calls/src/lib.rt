@@ -11,13 +11,13 @@ use refusal::Refusal;
 use refusal::Verdict;
 ghost use mathlib.Core.Path.{_≡_};
 ghost use mathlib.Core.Bool.{true};
-ghost use Prim.Native.Nat.{_<_, _+_};
+ghost use Prim.Native.Nat.{_+_};
 ghost use lib.ListN.{length};
 ghost use Rattle.octets.specs.Octets.{further};
 ghost use Rattle.refusal.specs.Refusal.{verdictOf, numberOf};
-ghost use Rattle.refusal.specs.Outcome.{plain, after, refused, _and-then_, done};
+ghost use Rattle.refusal.specs.Outcome.{plain, _and-then_, done};
 ghost use Rattle.config.specs.Config.{good, inRange, recordsSize, slots};
-ghost use Rattle.bundle.specs.Bundle.{readingOf, bundleOf, size};
+ghost use Rattle.bundle.specs.Bundle.{readingOf, size};
 ghost use Rattle.record.specs.Record.{bytes, stepOf};
 ghost use Rattle.calls.specs.Records.{recordAt, stored};
 ghost use Rattle.calls.specs.Open.{opened, openRecords};
@@ -115,7 +115,7 @@ pub fn broadcast(config: Config, payload: &[u8], records: &mut [u8], out: &mut [
     found
 }
 
-// Takes a bundle that came in. What is answered signed or delivered is to be sent: `out` then has the
+// Receives a bundle that came in. What is answered signed or delivered is to be sent: `out` then has the
 // bundle of the record.
 pub fn receive(config: Config, bundle: &[u8], records: &mut [u8], out: &mut [u8]) -> Receipt
     ensures { λ r. ⌜ receiptOf r ≡ (receiveOf config (now (bundle .entry)) (now (records .entry)) (now (out .entry)) and-then λ turn. done (reported turn)) ⌝ }

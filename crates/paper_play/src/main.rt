@@ -23,7 +23,7 @@ ghost use Prim.Native.Nat.{_≤_};
 // The payload of the run.
 const PAYLOAD: [u8; 16] = [0, 1, 2, 3, 4, 5, 6, 7, 8, 9, 10, 11, 12, 13, 14, 15];
 
-// The seven steps; of each step that sends, the outgoing bytes are kept. What a node takes is what another
+// The seven steps; of each step that sends, the outgoing bytes are kept. What a node receives is what another
 // sent, as the paper's rows have it, but for step 6.
 fn main() {
     let mut records0 = opened(0);
@@ -125,7 +125,7 @@ fn broadcast_row(step: u64, own: u8, answer: Announcement) {
     text(b"\n");
 }
 
-// A step of act B: the node takes a bundle.
+// A step of act B: the node receives a bundle.
 fn receive(step: u64, own: u8, bundle: &[u8], records: &mut [u8], out: &mut [u8]) {
     let answer = calls::receive(node(own), bundle, records, out);
     receive_row(step, own, answer);

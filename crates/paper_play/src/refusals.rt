@@ -139,14 +139,14 @@ fn broadcast_over(
     );
 }
 
-// Takes a bundle over a copy of the records.
+// Receives a bundle over a copy of the records.
 fn receive(config: Config, bundle: &[u8], before: [u8; 2048]) {
     let mut records = before;
     let mut out = [0xeeu8; 32];
     receive_over(config, bundle, &before, &mut records, &mut out);
 }
 
-// Takes the bundle with another byte at one place, at node 1.
+// Receives the bundle with another byte at one place, at node 1.
 fn receive_altered(bundle: [u8; 32], at: usize, value: u8, before: [u8; 2048]) {
     let altered = with_byte(bundle, at, value);
     receive(node(1), &altered, before);
@@ -161,7 +161,7 @@ fn with_byte(bundle: [u8; 32], at: usize, value: u8) -> [u8; 32] {
     other
 }
 
-// Takes a bundle with outgoing bytes, and then with records, that are one byte short.
+// Receives a bundle with outgoing bytes, and then with records, that are one byte short.
 fn short_receives(held: [u8; 2048], bundle: &[u8]) {
     let mut records = held;
     let mut short_out = [0xeeu8; 31];
@@ -171,7 +171,7 @@ fn short_receives(held: [u8; 2048], bundle: &[u8]) {
     receive_over(node(1), bundle, &[0xeeu8; 2047], &mut short, &mut out);
 }
 
-// Takes a bundle over records that are a copy of `before`, and outgoing bytes that are all ee.
+// Receives a bundle over records that are a copy of `before`, and outgoing bytes that are all ee.
 fn receive_over(config: Config, bundle: &[u8], before: &[u8], records: &mut [u8], out: &mut [u8]) {
     let answer = calls::receive(config, bundle, records, out);
     row(
@@ -204,7 +204,7 @@ fn broadcast_reason(answer: Announcement) -> u32 {
     }
 }
 
-// The number of the reason for which taking refused, or 0.
+// The number of the reason for which receiving refused, or 0.
 fn receive_reason(answer: Receipt) -> u32 {
     match answer {
         Receipt::Kept(_) => 0,

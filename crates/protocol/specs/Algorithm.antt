@@ -108,14 +108,14 @@ pub record SameState (a b : State) : Type 0 where
   pub signed-alike : a .hasSigned ≡ b .hasSigned
   pub delivered-alike : a .hasDelivered ≡ b .hasDelivered
 
--- Announcing on an empty record does what mbrb_broadcast does.
+-- Broadcasting on an empty record does what mbrb_broadcast does.
 abbrev pub BroadcastFollows : Type 0
 BroadcastFollows =
     (own : ℕ) (m : List ℕ)
     → SameState (stateOf (announcedBy own m)) (onBroadcast own m (stateOf Empty) .state)
     × (onBroadcast own m (stateOf Empty) .effects ≡ broadcast (signersOf (announcedBy own m)) m ∷ [])
 
--- What a taking comes to, beside what the algorithm does with the bundle on the same state.
+-- What receiving a bundle comes to, beside what the algorithm does with the bundle on the same state.
 module _ (n t own sender : ℕ) (sigs : ℕ) (m : List ℕ) (r : Record) where
   abbrev run : Run
   run = onBundle n t own sender m sigs (stateOf r)
@@ -144,7 +144,7 @@ UnsignedIgnored =
     (n t own sender sigs : ℕ) (m : List ℕ) (σ : State) → member sigs sender ≡ false
     → SameState (onBundle n t own sender m sigs σ .state) σ × (onBundle n t own sender m sigs σ .effects ≡ [])
 
--- Taking follows the algorithm, for the paper's quorum and a bundle that has its sender's signature.
+-- Receiving follows the algorithm, for the paper's quorum and a bundle that has its sender's signature.
 abbrev pub UpdateFollows : Type 0
 UpdateFollows =
     (n t own sender q sigs : ℕ) (m : List ℕ) (r : Record)

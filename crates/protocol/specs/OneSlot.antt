@@ -21,7 +21,7 @@ pub data Act : Type 0 where
   hand : (signers : ℕ) (payload : List ℕ) → Act
 
 module _ (q : ℕ) where
-  -- announcing takes an empty record, and a bundle is taken as document 01 says
+  -- announcing uses an empty record, and a bundle updates the record as document 01 says
   unfoldable pub play : ℕ → Act → Record → Outcome Turn
   play own (announce payload) r = unless ((25 if not (isEmpty r)) ∷ []) (record { answer = announced; after = announcedBy own payload })
   play own (hand signers payload) r = update own q signers payload r

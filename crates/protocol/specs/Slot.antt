@@ -97,6 +97,6 @@ module _ (own q : ℕ) (signers : ℕ) (payload : List ℕ) (r : Record) where
       (record { answer = delivered; after = Delivered gathered payload })
       (record { answer = cond (isEmpty r) signed kept; after = Held gathered payload })
 
-  -- taking a bundle that reading accepts, with these signers and this payload
+  -- what a bundle that reading accepts does, with these signers and this payload: document 01's taking
   unfoldable pub update : Outcome Turn
   update = unless updateReasons updated

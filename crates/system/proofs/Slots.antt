@@ -10,7 +10,7 @@ use lib.Dec.{eqb, ltb}
 use lib.ListN.{length}
 use borrow.Author.Tests.{eqb-true, ltb-true, not-true, not-false}
 use Rattle.signers.specs.Signers.{member}
-use Rattle.config.specs.Config.{good, recordsSize}
+use Rattle.config.specs.Config.{good, slots, recordsSize}
 use Rattle.bundle.specs.Bundle.{payload}
 use Rattle.protocol.specs.Slot.{Record, Empty}
 use Rattle.protocol.specs.Trace.{Trace, start, _then_calls_, state}
@@ -109,7 +109,7 @@ module _ (s : System) (sender seq : ℕ) where
   ready earlier v (Broadcast content out) size first keeps = keeps .opened (not-false (called s earlier v) (sym first))
   ready earlier v (Receive bundle out) size first keeps = keeps .opened (not-false (called s earlier v) (sym first))
 
-  module _ (hs : sender < s .shared .n) (hk : seq < 16) (g : good (config s 0) ≡ true) (dated : s .shared .day < 2 ^ 32) where
+  module _ (hs : sender < s .shared .n) (hk : seq < slots) (g : good (config s 0) ≡ true) (dated : s .shared .day < 2 ^ 32) where
     -- each call of a lawful list matches its act
     lawful-keeps : (list : Trace Call) → Lawful s list → AllMatched list × ((u : ℕ) → Keeps list u)
     lawful-keeps start lawful = (tt, keeps-start)

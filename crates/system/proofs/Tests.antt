@@ -12,7 +12,7 @@ use Rattle.octets.specs.Octets.{same}
 use Rattle.octets.proofs.Same.{same-says, same-self}
 use Rattle.signers.specs.Signers.{member}
 use Rattle.refusal.specs.Outcome.{Outcome, refused, done, after}
-use Rattle.config.specs.Config.{good}
+use Rattle.config.specs.Config.{good, slots}
 use Rattle.bundle.specs.declared.Header.{Header}
 use Rattle.bundle.specs.Bundle.{headerOf}
 use Rattle.protocol.specs.Slot as slot
@@ -145,7 +145,7 @@ module _ (s : System) (sender seq : ℕ) (u : ℕ) (call : Call) (records : List
       subst₂ (λ (x : ℕ) (p : List ℕ). Bundled (s .shared .n) sender x p) (t .3) (t .4) (h .as-written (t .0) (t .1) (t .2) .1)
 
   -- signing: what is sent is read back
-  module _ (hs : sender < s .shared .n) (hk : seq < 16) (g : good (config s 0) ≡ true) (dated : s .shared .day < 2 ^ 32) where
+  module _ (hs : sender < s .shared .n) (hk : seq < slots) (g : good (config s 0) ≡ true) (dated : s .shared .day < 2 ^ 32) where
     bundle-fields : (signers : ℕ) (content : List ℕ) → Bundled (s .shared .n) sender signers content
         → (headerOf (bundleIn s sender seq signers content) .signers ≡ signers) × (payloadIn (bundleIn s sender seq signers content) ≡ content)
     unfolding config

@@ -30,7 +30,7 @@ second = replicate payloadSize 2
 unfoldable pub third : List ℕ
 third = replicate payloadSize 3
 
--- taking, with outgoing bytes of the right length, of a bundle of this sender's slot 0. Signers as words: bit u stands for node u.
+-- receiving, with outgoing bytes of the right length, a bundle of this sender's slot 0. Signers as words: bit u stands for node u.
 unfoldable pub gets : ℕ → ℕ → List ℕ → Call
 gets sender signers content = Receive (bundleOf 7 (record { sender = sender; seq = 0; signers = signers }) content) (replicate size 0)
 

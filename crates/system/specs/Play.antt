@@ -64,7 +64,7 @@ receiptRow (Receipt.the-variants.Signed count) = row Signed 0 (receiptCount (Rec
 receiptRow (Receipt.the-variants.Delivered count) = row Delivered 0 (receiptCount (Receipt.the-variants.Delivered count))
 receiptRow (Receipt.the-variants.Refused reason) = row Refused (numberOf reason) (receiptCount (Receipt.the-variants.Refused reason))
 
--- a step with the unit it is at and the row printed for it
+-- a step with the node it is at and the row printed for it
 abbrev pub printed : ℕ → Step → Word → ℕ → ℕ → ℕ × Step × Row
 printed u step answer reason count = (u, step, row answer reason count)
 
@@ -80,7 +80,7 @@ steps =
     ∷ printed 0 (B 7) Delivered 0 3
     ∷ []
 
--- a line: its place, the calls before it, the unit, the step there and the row
+-- a line: its place, the calls before it, the node, the step there and the row
 pub record Line : Type 0 where
   pub place : ℕ
   pub before : Trace Call
