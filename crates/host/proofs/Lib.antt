@@ -1,0 +1,2 @@
+-- Laws of the codes.
+pub mod Codes

@@ -1,0 +1,71 @@
+// The C interface: broadcasting and receiving through numbers and byte slices, with one code for an answer.
+//
+// include/mbrb.h declares both functions for C and C++. A slice passes as a pointer and a length; what the host must see to there
+// is in that file.
+use calls::Announcement;
+use calls::Receipt;
+use config::Config;
+ghost use mathlib.Core.Path.{_≡_};
+ghost use Rattle.calls.specs.Broadcast.{broadcast, broadcastRecords, broadcastOut, announcementOf};
+ghost use Rattle.calls.specs.Receive.{receive, receiveRecords, receiveOut, receiptOf};
+ghost use Rattle.host.specs.Code.{table, announcedCode, receivedCode, reportedCode};
+
+// Broadcasts a payload. The code is 200 plus the sequence number, or the refusal's number.
+#[no_mangle]
+pub extern "C" fn mbrb_broadcast(
+    n: u8,
+    t: u8,
+    d: u8,
+    own: u8,
+    day: u32,
+    payload: &[u8],
+    records: &mut [u8],
+    out: &mut [u8],
+) -> u32
+    ensures { λ r. ⌜ r ≡ announcedCode (broadcast (table n t d own day) (now (payload .entry)) (now (records .entry)) (now (out .entry))) ⌝ }
+    ensures { λ _. ⌜ now (records .exit) ≡ broadcastRecords (table n t d own day) (now (payload .entry)) (now (records .entry)) (now (out .entry)) ⌝ }
+    ensures { λ _. ⌜ now (out .exit) ≡ broadcastOut (table n t d own day) (now (payload .entry)) (now (records .entry)) (now (out .entry)) ⌝ }
+{
+    let config = Config { n, t, d, own, day };
+    announcement_code(calls::broadcast(config, payload, records, out))
+}
+
+// Receives a bundle. The code is 100 for kept, 101 for signed, 102 for delivered, or the refusal's number.
+#[no_mangle]
+pub extern "C" fn mbrb_receive(
+    n: u8,
+    t: u8,
+    d: u8,
+    own: u8,
+    day: u32,
+    bundle: &[u8],
+    records: &mut [u8],
+    out: &mut [u8],
+) -> u32
+    ensures { λ r. ⌜ r ≡ receivedCode (receive (table n t d own day) (now (bundle .entry)) (now (records .entry)) (now (out .entry))) ⌝ }
+    ensures { λ _. ⌜ now (records .exit) ≡ receiveRecords (table n t d own day) (now (bundle .entry)) (now (records .entry)) (now (out .entry)) ⌝ }
+    ensures { λ _. ⌜ now (out .exit) ≡ receiveOut (table n t d own day) (now (bundle .entry)) (now (records .entry)) (now (out .entry)) ⌝ }
+{
+    let config = Config { n, t, d, own, day };
+    receipt_code(calls::receive(config, bundle, records, out))
+}
+
+fn announcement_code(announcement: Announcement) -> u32
+    ensures { λ r. ⌜ r ≡ announcedCode (announcementOf announcement) ⌝ }
+{
+    match announcement {
+        Announcement::Announced(seq) => 200 + (seq as u32),
+        Announcement::Refused(reason) => refusal::number(reason),
+    }
+}
+
+fn receipt_code(receipt: Receipt) -> u32
+    ensures { λ r. ⌜ r ≡ reportedCode (receiptOf receipt) ⌝ }
+{
+    match receipt {
+        Receipt::Kept(_) => 100,
+        Receipt::Signed(_) => 101,
+        Receipt::Delivered(_) => 102,
+        Receipt::Refused(reason) => refusal::number(reason),
+    }
+}

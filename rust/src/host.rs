@@ -1,0 +1,78 @@
+//! The exported functions, called from safe Rust.
+//!
+//! Nothing checks the declarations below against the proved source: the test `compare` does, by calling.
+
+use crate::Config;
+
+#[link(name = "host", kind = "static")]
+extern "C" {
+    fn mbrb_broadcast(
+        n: u8,
+        t: u8,
+        d: u8,
+        own: u8,
+        day: u32,
+        payload: *const u8,
+        payload_len: usize,
+        records: *mut u8,
+        records_len: usize,
+        out: *mut u8,
+        out_len: usize,
+    ) -> u32;
+    fn mbrb_receive(
+        n: u8,
+        t: u8,
+        d: u8,
+        own: u8,
+        day: u32,
+        bundle: *const u8,
+        bundle_len: usize,
+        records: *mut u8,
+        records_len: usize,
+        out: *mut u8,
+        out_len: usize,
+    ) -> u32;
+}
+
+/// Announces a payload: the host's code of the answer.
+#[inline]
+pub fn broadcast(config: &Config, payload: &[u8], records: &mut [u8], out: &mut [u8]) -> u32 {
+    // SAFETY: each pointer comes with the length of its slice, and the borrows keep the three slices apart and lent for the call. The
+    // function asks for nothing else: its contract has no `requires`.
+    unsafe {
+        mbrb_broadcast(
+            config.n,
+            config.t,
+            config.d,
+            config.own,
+            config.day,
+            payload.as_ptr(),
+            payload.len(),
+            records.as_mut_ptr(),
+            records.len(),
+            out.as_mut_ptr(),
+            out.len(),
+        )
+    }
+}
+
+/// Takes a bundle: the host's code of the answer.
+#[inline]
+pub fn receive(config: &Config, bundle: &[u8], records: &mut [u8], out: &mut [u8]) -> u32 {
+    // SAFETY: as for `broadcast`.
+    unsafe {
+        mbrb_receive(
+            config.n,
+            config.t,
+            config.d,
+            config.own,
+            config.day,
+            bundle.as_ptr(),
+            bundle.len(),
+            records.as_mut_ptr(),
+            records.len(),
+            out.as_mut_ptr(),
+            out.len(),
+        )
+    }
+}
