@@ -5,7 +5,7 @@
  * slot (a day, a sender and a number from 0 to 15), whatever faulty units send and whatever is lost, late, twice or out of order. That, and
  * every code and byte below, is proved of the functions in this library.
  *
- * Build the library with `rt staticlib host` and link target/staticlib/libhost.a. It allocates nothing, keeps nothing between calls, and
+ * Build the library with `rt staticlib host` and link target/staticlib/libhost.a, for x86-64. It allocates nothing, keeps nothing between calls, and
  * calls nothing of the host's. examples/host has a program to start from.
  *
  *
@@ -13,29 +13,31 @@
  *
  * Of the memory that it lends to a call:
  * - Each pointer has at least as many bytes behind it as the length beside it says, until the call is back. No pointer is null, not even one
- *   whose length is 0.
+ *   whose length is 0. `out` need not be initialised.
  * - The three buffers of a call do not overlap.
  * - Nobody else writes to them during the call, nor reads `records` or `out`: no interrupt, no other core, no device.
  * A call is safe with all bytes, lengths and numbers that keep to this. It refuses what it cannot use, and then changes no byte.
  *
  * Of the records:
  * - A unit has one record buffer of MBRB_RECORDS_SIZE(n) bytes a day. Before the first call of the day the host opens it: it sets every byte
- *   to zero, once. From then on only the calls write to it, and it is kept until the day is over, through a restart too: a unit that
- *   loses it may sign a second body in one slot, and counts as faulty from then on.
+ *   to zero, once. From then on only the calls write to it, and it is kept until the day is over, through a restart too: what a call has
+ *   changed is safe before `out` is sent. A unit that loses its records may sign a second body in one slot, and counts as faulty from then on.
  *
  * Of the cascade:
  * - n, t, d and day are the same at all units, and `own` is different at each.
  * - At most t units are faulty.
  *
  * Of signatures. Bit u of a bundle's signers stands for a signature of unit u on day, sender, number and body:
- * - Coming in, the host's key chip checks each signature before the call, and the host clears the bit of each that does not hold.
+ * - Coming in, the host's key chip checks each signature of units 0 to n - 1 before the call, and the host clears the bit of each that does not
+ *   hold. Bits at n and above may stay: the call refuses them.
  * - Going out, the key chip adds the signatures that the bits name: our own, if our bit is set, and those that came with the
  *   bundles of that slot and body.
  *
  * Of the radio:
- * - After MBRB_SIGNED, MBRB_DELIVERED and MBRB_ANNOUNCED(number) `out` holds a bundle, which is to be sent to all units, the sender among
+ * - After MBRB_SIGNED, MBRB_DELIVERED and MBRB_ANNOUNCED(number) `out` holds a bundle, which is to be sent to all units, the sending one among
  *   them: it delivers its own announcement by taking it back with enough signatures. After any other code nothing is to be sent.
- * - What is sent once by a sound unit reaches all other sound units but d. Then what one sound unit delivers, all but d deliver.
+ * - For delivery, each bundle that a sound unit sends comes to be taken, by its 32 bytes and whoever brings them, at all sound units but d,
+ *   the sending one counted like any other. Then what a sound unit announces, and what one delivers, all sound units but d deliver.
  */
 #ifndef MBRB_H
 #define MBRB_H
@@ -89,7 +91,8 @@ extern "C" {
 #define MBRB_BODY_LENGTH 9             /* [B]   the body has not 16 bytes */
 #define MBRB_OUT_LENGTH 10             /* [B R] `out` has not 32 bytes */
 #define MBRB_RECORDS_LENGTH 20         /* [B R] `records` has not MBRB_RECORDS_SIZE(n) bytes */
-#define MBRB_UNSOUND_RECORD 21         /* [B R] the slot's record is none that these calls leave: not opened, or written over */
+#define MBRB_UNSOUND_RECORD 21         /* [B R] the slot's record, or one of ours before the first free one, is none that these calls leave:
+                                                not opened, or written over */
 #define MBRB_ALREADY_DELIVERED 22      /* [R]   the slot is delivered already; this is usual, and nothing is wrong */
 #define MBRB_OWN_SIGNATURE_UNKNOWN 23  /* [R]   it has our signature, yet our record does not hold its body: forged, or the records were lost */
 #define MBRB_OTHER_BODY 24             /* [R]   another body is held, and fewer than a quorum signed this one: its sender said two things */

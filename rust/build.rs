@@ -1,11 +1,14 @@
 //! Links the static library of the proved functions, which `rt staticlib host` builds.
 
-use std::path::Path;
+use std::path::PathBuf;
 
 fn main() {
-    let root = Path::new(env!("CARGO_MANIFEST_DIR")).parent().expect("the package lies in the repository");
-    let folder = root.join("target/staticlib");
-    println!("cargo:rerun-if-changed={}", folder.join("libhost.a").display());
+    let package = PathBuf::from(std::env::var_os("CARGO_MANIFEST_DIR").expect("cargo sets it"));
+    let folder = package.join("../target/staticlib");
+    println!(
+        "cargo:rerun-if-changed={}",
+        folder.join("libhost.a").display()
+    );
     println!("cargo:rustc-link-search=native={}", folder.display());
     println!("cargo:rustc-link-lib=static=host");
 }

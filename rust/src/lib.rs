@@ -7,6 +7,15 @@ pub mod host;
 pub mod random;
 pub mod reference;
 
+/// A number that a test takes from the environment, or its usual one.
+pub fn setting(name: &str, usual: u64) -> u64 {
+    let Ok(text) = std::env::var(name) else {
+        return usual;
+    };
+    text.parse()
+        .unwrap_or_else(|_| panic!("{name} is not a number: {text}"))
+}
+
 /// What the nodes of a system share but for `own`: document 01's table. It may hold any values: a call refuses one that is not good.
 #[derive(Clone, Copy, Debug, PartialEq, Eq)]
 pub struct Config {

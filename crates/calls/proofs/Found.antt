@@ -2,48 +2,111 @@
 -- Assumes nothing.
 use mathlib.Core.Path.{_≡_, refl, sym, ap, _∙_, subst}
 use mathlib.Core.Bool.{Bool, true, false, cond, true≢false}
-use mathlib.Core.List.{List}
-use Prim.Native.Nat.{ℕ, zero, suc, _+_, _-_, _≤_, _<_}
-use native.Mathlib.Numerals.{add-one}
+use mathlib.Core.List.{List, _++_}
+use Prim.Native.Nat.{ℕ, zero, suc, _+_, _-_, _*_, _/_, _%_, _≤_, _<_}
 use native.Mathlib.Omega.{arith}
 use lib.Arith.{lt-of-le-ne}
-use lib.ListN.{length}
-use borrow.Author.Tests.{eqb-true, not-false}
-use Rattle.octets.specs.Octets.{blank}
+use lib.ListN.{length, take, drop, length-drop}
+use lib.Seq.{length-take-le, take-take, take-add, drop-drop, drop-append-seam}
+use borrow.Author.Tests.{eqb-true, ne-eqb, lt-ltb, le-ltb, not-false}
+use Rattle.octets.specs.Octets.{blank, part}
+use Rattle.octets.proofs.Numbers.{length-part}
 use Rattle.refusal.specs.Outcome.{Outcome, refused, done, checked, _and-then_}
 use Rattle.refusal.proofs.Reasons.{Clear, refused-not-done, done-clear}
 use Rattle.config.specs.declared.Config.{Config}
-use Rattle.config.specs.Config.{good, slots, recordsSize}
+use Rattle.config.specs.Config.{good, slots, offset, recordSize, recordsSize}
+use Rattle.config.proofs.Laws.{good-says}
 use Rattle.bundle.specs.Bundle.{payloadSize}
 use Rattle.record.specs.Record.{wellFormed}
 use Rattle.calls.specs.Records.{recordAt}
 use Rattle.calls.specs.Broadcast.{search, broadcastReasons, broadcast}
 use Rattle.calls.specs.Locality.{ends}
+use Rattle.calls.specs.Settled.{scanned, foundOf}
+use Rattle.calls.proofs.Room.{in-range, offset-room, offset-record, own-room}
 
--- one look of the search: no record is left, the record is blank, it is unsound, or the rest decides
-module _ (w : Config) (records : List ℕ) (seq left : ℕ) where
-  pub search-none : left ≡ 0 → search w records seq left ≡ refused 25
-  unfolding search
-  search-none e = rw e
+-- one look of the search over the rest: no record is left, the first is blank, it is unsound, or what is behind it decides
+module _ (w : Config) (rest : List ℕ) where
+  pub scan-none : length rest ≡ 0 → scanned w rest (length rest / recordSize) ≡ refused 25
+  unfolding scanned
+  scan-none e = rw e
 
-  module _ (some : 1 ≤ left) where
-    -- a search with records left looks at one
-    look : search w records seq left
-        ≡ cond (blank (recordAt w (w .own) seq records)) (done seq)
-        (cond (wellFormed w (w .own) (recordAt w (w .own) seq records)) (search w records (suc seq) (left - 1)) (refused 21))
-    unfolding search
-    look = let more : left ≡ suc (left - 1) = omega arith in ap (search w records seq) more
+  module _ (whole : length rest % recordSize ≡ 0) (some : length rest ≡ 0 → ⊥) where
+    one-more : length rest / recordSize ≡ suc (length (drop recordSize rest) / recordSize)
+    one-more = simp length-drop (omega arith)
 
-    pub search-free : blank (recordAt w (w .own) seq records) ≡ true → search w records seq left ≡ done seq
-    search-free b = look ∙ rw b
+    look : scanned w rest (length rest / recordSize)
+        ≡ cond (blank (take recordSize rest)) (done (slots - length rest / recordSize))
+        (cond (wellFormed w (w .own) (take recordSize rest)) (scanned w (drop recordSize rest) (length (drop recordSize rest) / recordSize)) (refused 21))
+    unfolding scanned
+    look = rw one-more
 
-    pub search-malformed : blank (recordAt w (w .own) seq records) ≡ false → wellFormed w (w .own) (recordAt w (w .own) seq records) ≡ false
-        → search w records seq left ≡ refused 21
-    search-malformed b f = look ∙ rw (b, f)
+    pub scan-free : blank (take recordSize rest) ≡ true → scanned w rest (length rest / recordSize) ≡ done (slots - length rest / recordSize)
+    scan-free b = look ∙ rw b
 
-    pub search-next : blank (recordAt w (w .own) seq records) ≡ false → wellFormed w (w .own) (recordAt w (w .own) seq records) ≡ true
-        → search w records (seq + 1) (left - 1) ≡ search w records seq left
-    search-next b f = sym (look ∙ rw (b, f) (ap (λ (k : ℕ). search w records k (left - 1)) (sym (add-one seq))))
+    pub scan-malformed : blank (take recordSize rest) ≡ false → wellFormed w (w .own) (take recordSize rest) ≡ false
+        → scanned w rest (length rest / recordSize) ≡ refused 21
+    scan-malformed b f = look ∙ rw (b, f)
+
+    pub scan-next : blank (take recordSize rest) ≡ false → wellFormed w (w .own) (take recordSize rest) ≡ true
+        → scanned w rest (length rest / recordSize) ≡ scanned w (drop recordSize rest) (length (drop recordSize rest) / recordSize)
+    scan-next b f = look ∙ rw (b, f)
+
+-- what the search's number says
+pub found-number : (k : ℕ) → k < slots → foundOf k ≡ done k
+unfolding foundOf
+found-number k h = rw (lt-ltb k slots h)
+
+pub found-at : (k left : ℕ) → k ≡ slots - left → 1 ≤ left → foundOf k ≡ done (slots - left)
+found-at k left e some = ap foundOf e ∙ found-number (slots - left) (omega arith)
+
+pub found-none : (k : ℕ) → k ≡ slots → foundOf k ≡ refused 25
+unfolding foundOf
+found-none k e = rw e
+
+pub found-malformed : (k : ℕ) → slots < k → foundOf k ≡ refused 21
+unfolding foundOf
+found-malformed k h = rw (le-ltb k slots (omega arith), ne-eqb k slots (λ e. omega arith))
+
+-- what is behind the first part of a part
+part-behind : (ys : List ℕ) (n m : ℕ) → n ≤ length ys → drop n (take (n + m) ys) ≡ take m (drop n ys)
+part-behind ys n m h =
+    ap (drop n) (take-add n m ys)
+    ∙ ap (λ (k : ℕ). drop k (take n ys ++ take m (drop n ys))) (sym (length-take-le n ys h))
+    ∙ drop-append-seam (take n ys) (take m (drop n ys))
+
+-- one record follows the other
+offset-next : (sender k : ℕ) → offset sender k + recordSize ≡ offset sender (suc k)
+unfolding offset
+offset-next sender k = omega arith
+
+-- over our last records the search is that over the buffer
+pub scanned-search : (w : Config) (records : List ℕ) → good w ≡ true → length records ≡ recordsSize w → (seq left : ℕ) → seq + left ≡ slots
+    → scanned w (part (offset (w .own) seq) (recordSize * left) records) left ≡ search w records seq left
+unfolding scanned search
+scanned-search w records g l seq zero e = refl
+scanned-search w records g l seq (suc left) e =
+    let range = in-range w (w .own) seq (good-says w g .known) (omega arith) in
+    let at = offset-room w (w .own) seq g range records l in
+    let size : recordSize * suc left ≡ recordSize + recordSize * left = omega arith in
+    let room : recordSize ≤ length (drop (offset (w .own) seq) records) = simp length-drop (omega arith) in
+    let here : take recordSize (part (offset (w .own) seq) (recordSize * suc left) records) ≡ recordAt w (w .own) seq records
+    = take-take recordSize (recordSize * suc left) (drop (offset (w .own) seq) records) (omega arith) ∙ offset-record w (w .own) seq g range records in
+    let behind : drop recordSize (part (offset (w .own) seq) (recordSize * suc left) records) ≡ part (offset (w .own) (suc seq)) (recordSize * left) records
+    = ap (λ (k : ℕ). drop recordSize (take k (drop (offset (w .own) seq) records))) size
+    ∙ part-behind (drop (offset (w .own) seq) records) recordSize (recordSize * left) room
+    ∙ ap (take (recordSize * left)) (drop-drop recordSize (offset (w .own) seq) records ∙ ap (λ (k : ℕ). drop k records) (offset-next (w .own) seq)) in
+    let number : slots - suc left ≡ seq = omega arith in
+    rw (here, behind, number, scanned-search w records g l (suc seq) left (omega arith))
+
+-- over all sixteen, lent as a part of it
+pub scanned-own : (w : Config) (records : List ℕ) → good w ≡ true → length records ≡ recordsSize w → (start : ℕ) → start ≡ offset (w .own) 0
+    → scanned w (take (start + recordSize * slots - start) (drop start records)) (length (take (start + recordSize * slots - start) (drop start records)) / recordSize)
+    ≡ search w records 0 slots
+scanned-own w records g l start e =
+    let sixteen : start + recordSize * slots - start ≡ recordSize * slots = omega arith in
+    let ours : take (start + recordSize * slots - start) (drop start records) ≡ part (offset (w .own) 0) (recordSize * slots) records = rw (sixteen, e) in
+    let long = length-part records (offset (w .own) 0) (recordSize * slots) (own-room w records g l) in
+    rw (ours, long) (scanned-search w records g l 0 slots refl)
 
 -- the number that is found lies among those searched, and its record is blank
 search-found : (w : Config) (records : List ℕ) (seq left k : ℕ) → search w records seq left ≡ done k

@@ -14,12 +14,12 @@ use borrow.Author.Tests.{ltb-true, ltb-false, lt-ltb}
 use Rattle.octets.specs.Octets.{part}
 use Rattle.octets.proofs.Numbers.{length-part}
 use Rattle.config.specs.declared.Config.{Config}
-use Rattle.config.specs.Config.{good, slots, inRange, place, recordSize, recordsSize}
-use Rattle.calls.specs.Records.{recordAt, stored}
+use Rattle.config.specs.Config.{good, slots, inRange, offset, place, recordSize, recordsSize}
+use Rattle.calls.specs.Records.{recordAt, replaced, stored}
 
 -- where a slot's record starts
 pub place-is : (w : Config) (sender seq : ℕ) → good w ≡ true → sender < w .n → seq < slots → place w sender seq ≡ recordSize * (slots * sender + seq)
-unfolding place inRange
+unfolding place inRange offset
 place-is w sender seq g hs hk = rw (g, lt-ltb sender (w .n) hs, lt-ltb seq slots hk)
 
 -- a part of a list with other bytes at another place
@@ -98,24 +98,24 @@ module _ (w : Config) (g : good w ≡ true) (records : List ℕ) (size : length 
   module _ (sender seq : ℕ) (hs : sender < w .n) (hk : seq < slots) (bytes : List ℕ) (long : length bytes ≡ recordSize) where
     -- storing leaves the size,
     pub stored-length : length (stored w sender seq bytes records) ≡ length records
-    unfolding stored pasted
+    unfolding stored replaced pasted
     stored-length = pasted-length records bytes (place w sender seq) recordSize long (place-fits sender seq hs hk)
 
     -- is read back in its slot,
     pub stored-there : recordAt w sender seq (stored w sender seq bytes records) ≡ bytes
-    unfolding stored recordAt
+    unfolding stored replaced recordAt
     stored-there = paste-part records bytes (place w sender seq) recordSize long (place-fits sender seq hs hk)
 
     -- leaves every byte outside the record,
     pub stored-outside : (i : ℕ) → (i < place w sender seq) ⊎ (place w sender seq + recordSize ≤ i)
         → getD (stored w sender seq bytes records) i 0 ≡ getD records i 0
-    unfolding stored pasted
+    unfolding stored replaced pasted
     stored-outside i apart = pasted-outside records bytes (place w sender seq) recordSize long (place-fits sender seq hs hk) i apart
 
     -- and every other slot
     pub stored-elsewhere : (s k : ℕ) → s < w .n → k < slots → (s ≡ sender → k ≡ seq → ⊥)
         → recordAt w s k (stored w sender seq bytes records) ≡ recordAt w s k records
-    unfolding stored recordAt
+    unfolding stored replaced recordAt
     stored-elsewhere s k ls lk other =
         paste-other records bytes (place w sender seq) recordSize long (place-fits sender seq hs hk) (place w s k) recordSize (place-fits s k ls lk)
         (apart (ltb s sender) (ltb sender s) (ltb k seq) (ltb seq k) refl refl refl refl)

@@ -1,7 +1,7 @@
 -- Why each call refuses, in the order of its checks, and what it does where no reason applies.
 -- Assumes nothing.
-use mathlib.Core.Path.{_≡_, sym, ap, _∙_}
-use mathlib.Core.Bool.{true, false, cond}
+use mathlib.Core.Path.{_≡_, refl, sym, ap, _∙_}
+use mathlib.Core.Bool.{Bool, true, false, cond}
 use mathlib.Core.List.{List}
 use Prim.Native.Nat.{ℕ, _+_, _<_, _≤_}
 use lib.ListN.{length, replicate}
@@ -13,7 +13,8 @@ use Rattle.config.specs.Config.{good, slots, inRange, place, recordsSize, quoru
 use Rattle.bundle.specs.declared.Header.{Header}
 use Rattle.bundle.specs.Bundle.{size, payloadSize, bundleOf, headerOf, read, payload}
 use Rattle.protocol.specs.Slot.{isDelivered, announcedBy, sends, Turn, update}
-use Rattle.record.specs.Record.{image, recordIn, wellFormed, payloadAt}
+use Rattle.record.specs.Record.{image, recordIn, wellFormed, received, payloadAt}
+use Rattle.record.proofs.Updated.{received-malformed, received-sound}
 use Rattle.calls.specs.Records.{recordAt, stored}
 use Rattle.calls.specs.Open.{openReasons, opened}
 use Rattle.calls.specs.Broadcast.{search, announcedHeader, broadcastReasons, broadcast, broadcastRecords, broadcastOut}
@@ -139,6 +140,15 @@ module _ (w : Config) (bundle records out : List ℕ) where
             rest
             ∙ ap taking
             (clear-done (receiveReasons w bundle records out h) tt (passed (eq-eqb _ _ o), (passed (eq-eqb _ _ r), (passed f, tt))))
+
+        -- receiving is what the record makes of the bundle
+        pub receive-recorded : receive w bundle records out ≡ received w (h .sender) (h .signers) (payload w bundle) (recordAt w (h .sender) (h .seq) records)
+        receive-recorded = go (wellFormed w (h .sender) (recordAt w (h .sender) (h .seq) records)) refl
+          where
+            go : (b : Bool) → wellFormed w (h .sender) (recordAt w (h .sender) (h .seq) records) ≡ b
+                → receive w bundle records out ≡ received w (h .sender) (h .signers) (payload w bundle) (recordAt w (h .sender) (h .seq) records)
+            go true f = receive-updated f ∙ sym (received-sound w (h .sender) (h .signers) (payload w bundle) (recordAt w (h .sender) (h .seq) records) f)
+            go false f = receive-malformed f ∙ sym (received-malformed w (h .sender) (h .signers) (payload w bundle) (recordAt w (h .sender) (h .seq) records) f)
 
 -- ---- showing
 

@@ -13,9 +13,13 @@ use Rattle.config.specs.Config.{place, recordSize, recordsSize}
 unfoldable pub recordAt : Config → ℕ → ℕ → List ℕ → List ℕ
 recordAt w sender seq records = part (place w sender seq) recordSize records
 
--- the buffer with other bytes there, and all else as it was
+-- a buffer with another record's bytes at a place, and all else as it was
+unfoldable pub replaced : ℕ → List ℕ → List ℕ → List ℕ
+replaced start bytes records = take start records ++ (bytes ++ drop (start + recordSize) records)
+
+-- with them in a slot's place
 unfoldable pub stored : Config → ℕ → ℕ → List ℕ → List ℕ → List ℕ
-stored w sender seq bytes records = take (place w sender seq) records ++ (bytes ++ drop (place w sender seq + recordSize) records)
+stored w sender seq bytes records = replaced (place w sender seq) bytes records
 
 -- "20 record buffer not 512 × n bytes"
 abbrev pub wrongSize : Config → List ℕ → Bool

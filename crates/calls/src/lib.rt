@@ -10,21 +10,20 @@ use record::Step;
 use refusal::Refusal;
 use refusal::Verdict;
 ghost use mathlib.Core.Path.{_≡_};
-ghost use mathlib.Core.Bool.{true};
-ghost use Prim.Native.Nat.{_+_};
+ghost use Prim.Native.Nat.{_+_, _*_, _%_, _≤_};
 ghost use lib.ListN.{length};
-ghost use Rattle.octets.specs.Octets.{further};
+ghost use Rattle.octets.specs.Octets.{part, further};
 ghost use Rattle.refusal.specs.Refusal.{verdictOf, numberOf};
 ghost use Rattle.refusal.specs.Outcome.{plain, _and-then_, done};
-ghost use Rattle.config.specs.Config.{good, inRange, recordsSize, slots};
+ghost use Rattle.config.specs.Config.{slots, recordSize};
 ghost use Rattle.bundle.specs.Bundle.{readingOf, size};
 ghost use Rattle.record.specs.Record.{bytes, stepOf};
-ghost use Rattle.calls.specs.Records.{recordAt, stored};
+ghost use Rattle.calls.specs.Records.{replaced};
 ghost use Rattle.calls.specs.Open.{opened, openRecords};
-ghost use Rattle.calls.specs.Broadcast.{search as searched, broadcast as broadcastOf, broadcastRecords, broadcastOut, announcementOf, announcementCount};
+ghost use Rattle.calls.specs.Broadcast.{broadcast as broadcastOf, broadcastRecords, broadcastOut, announcementOf, announcementCount};
 ghost use Rattle.calls.specs.Receive.{receive as receiveOf, receiveRecords, receiveOut, reported, receiptOf, receiptCount};
 ghost use Rattle.calls.specs.Delivered.{delivered as deliveredOf, deliveredPart, deliveredPlace};
-ghost use Rattle.calls.specs.Settled.{settledReceipt, settledRecords, settledOut, numberIn, sent};
+ghost use Rattle.calls.specs.Settled.{Found, settledReceipt, settledRecords, settledOut, numberIn, sent};
 
 // The answer of broadcasting: the sequence number used.
 pub enum Announcement {
@@ -100,19 +99,29 @@ pub fn broadcast(config: Config, payload: &[u8], records: &mut [u8], out: &mut [
     if records.len() != config.records_size() {
         return Announcement::Refused(Refusal::RecordsLength);
     }
-    let found = search(config, records, 0, config::SLOTS);
-    let Announcement::Announced(seq) = found else {
-        return found;
-    };
+    let ours = signers::insert(0, config.own);
+    let first = config::offset(config.own, 0);
+    let seq = search(
+        signers::below(config.n),
+        config.quorum(),
+        ours,
+        &records[first..first + config::RECORD_SIZE * (config::SLOTS as usize)],
+    );
+    if seq == NONE_FREE {
+        return Announcement::Refused(Refusal::NoFreeSlot);
+    }
+    if NONE_FREE < seq {
+        return Announcement::Refused(Refusal::MalformedRecord);
+    }
     let record = Record {
         head: record::HELD,
-        signers: signers::insert(0, config.own),
+        signers: ours,
         high: octets::word(&payload[0..8]),
         low: octets::word(&payload[8..16]),
     };
-    put(config, config.own, seq, record, records);
+    put(config::offset(config.own, seq), record, records);
     send(config, config.own, seq, record, out);
-    found
+    Announcement::Announced(seq)
 }
 
 // Receives a bundle that came in. What is answered signed or delivered is to be sent: `out` then has the
@@ -132,14 +141,12 @@ pub fn receive(config: Config, bundle: &[u8], records: &mut [u8], out: &mut [u8]
     if records.len() != config.records_size() {
         return Receipt::Refused(Refusal::RecordsLength);
     }
-    let record = get(config, header.sender, header.seq, records);
-    if !record.well_formed(config, header.sender) {
-        return Receipt::Refused(Refusal::MalformedRecord);
-    }
+    let start = config::offset(header.sender, header.seq);
+    let record = get(start, records);
     let high = octets::word(&bundle[16..24]);
     let low = octets::word(&bundle[24..32]);
-    let step = record.update(config, header.signers, high, low);
-    settle(config, header, step, records, out)
+    let step = record.receive(config, header.sender, header.signers, high, low);
+    settle(config, header, start, step, records, out)
 }
 
 // Whether the slot is delivered, or why it cannot be shown.
@@ -158,7 +165,7 @@ pub fn check_delivered(config: Config, sender: u8, seq: u8, records: &[u8]) -> V
     if records.len() != config.records_size() {
         return Verdict::Refused(Refusal::RecordsLength);
     }
-    let record = get(config, sender, seq, records);
+    let record = get(config::offset(sender, seq), records);
     if !record.well_formed(config, sender) {
         return Verdict::Refused(Refusal::MalformedRecord);
     }
@@ -183,25 +190,31 @@ pub fn delivered(config: Config, sender: u8, seq: u8, records: &[u8]) -> &[u8]
     }
 }
 
-// The lowest of our numbers from `seq` on whose record is empty, if all before it are sound. `left`
-// records are left to look at.
-fn search(config: Config, records: &[u8], seq: u8, left: u8) -> Announcement
-    requires { ⌜ good config ≡ true ⌝ }
-    requires { ⌜ length (now records) ≡ recordsSize config ⌝ }
-    requires { ⌜ seq + left ≡ slots ⌝ }
-    ensures { λ r. ⌜ announcementOf r ≡ searched config (now (records .entry)) seq left ⌝ }
+// What `search` answers beside a number: all our records are sound and none is empty, or an unsound one
+// comes before any that is empty.
+const NONE_FREE: u8 = config::SLOTS;
+
+const MALFORMED: u8 = config::SLOTS + 1;
+
+// The number of the first record that is empty in `rest`, the last of our sixteen, if all before it are
+// sound. It looks at one and hands the rest to itself. The answer is a number, and the rest a part of its
+// own, since what a call hands over in memory would be copied, and waited for, at each of the sixteen.
+fn search(all: u64, quorum: u32, ours: u64, rest: &[u8]) -> u8
+    requires { ⌜ length (now rest) % recordSize ≡ 0 ⌝ }
+    requires { ⌜ length (now rest) ≤ recordSize * slots ⌝ }
+    ensures { λ r. ⌜ Found all quorum ours (now (rest .entry)) r ⌝ }
 {
-    if left == 0 {
-        return Announcement::Refused(Refusal::NoFreeSlot);
+    if rest.len() == 0 {
+        return NONE_FREE;
     }
-    let record = get(config, config.own, seq, records);
+    let record = get(0, rest);
     if record.is_blank() {
-        return Announcement::Announced(seq);
+        return config::SLOTS - ((rest.len() / config::RECORD_SIZE % 256) as u8);
     }
-    if !record.well_formed(config, config.own) {
-        return Announcement::Refused(Refusal::MalformedRecord);
+    if !record.sound(all, quorum, ours, ours) {
+        return MALFORMED;
     }
-    search(config, records, seq + 1, left - 1)
+    search(all, quorum, ours, &rest[config::RECORD_SIZE..])
 }
 
 // The reason for which a bundle was not accepted.
@@ -215,27 +228,32 @@ fn reason(reading: Reading) -> Refusal
 }
 
 // Does what a step asks for: keeps the record, writes its bundle, or neither.
-fn settle(config: Config, header: Header, step: Step, records: &mut [u8], out: &mut [u8]) -> Receipt
-    requires { ⌜ good config ≡ true ⌝ }
-    requires { ⌜ inRange config (header .sender) (header .seq) ≡ true ⌝ }
-    requires { ⌜ length (now records) ≡ recordsSize config ⌝ }
+fn settle(
+    config: Config,
+    header: Header,
+    start: usize,
+    step: Step,
+    records: &mut [u8],
+    out: &mut [u8],
+) -> Receipt
+    requires { ⌜ start + recordSize ≤ length (now records) ⌝ }
     requires { ⌜ length (now out) ≡ size ⌝ }
     ensures { λ r. ⌜ receiptOf r ≡ settledReceipt (stepOf step) ⌝ }
-    ensures { λ _. ⌜ now (records .exit) ≡ settledRecords config header (stepOf step) (now (records .entry)) ⌝ }
+    ensures { λ _. ⌜ now (records .exit) ≡ settledRecords start (stepOf step) (now (records .entry)) ⌝ }
     ensures { λ _. ⌜ now (out .exit) ≡ settledOut config header (stepOf step) (now (out .entry)) ⌝ }
 {
     match step {
         Step::Kept(record) => {
-            put(config, header.sender, header.seq, record, records);
+            put(start, record, records);
             Receipt::Kept(signers::size(record.signers))
         }
         Step::Signed(record) => {
-            put(config, header.sender, header.seq, record, records);
+            put(start, record, records);
             send(config, header.sender, header.seq, record, out);
             Receipt::Signed(signers::size(record.signers))
         }
         Step::Delivered(record) => {
-            put(config, header.sender, header.seq, record, records);
+            put(start, record, records);
             send(config, header.sender, header.seq, record, out);
             Receipt::Delivered(signers::size(record.signers))
         }
@@ -243,25 +261,19 @@ fn settle(config: Config, header: Header, step: Step, records: &mut [u8], out: &
     }
 }
 
-// The record of a slot.
-fn get(config: Config, sender: u8, seq: u8, records: &[u8]) -> Record
-    requires { ⌜ good config ≡ true ⌝ }
-    requires { ⌜ inRange config sender seq ≡ true ⌝ }
-    requires { ⌜ length (now records) ≡ recordsSize config ⌝ }
-    ensures { λ r. ⌜ bytes r ≡ recordAt config sender seq (now (records .entry)) ⌝ }
+// The record that starts there.
+fn get(start: usize, records: &[u8]) -> Record
+    requires { ⌜ start + recordSize ≤ length (now records) ⌝ }
+    ensures { λ r. ⌜ bytes r ≡ part start recordSize (now (records .entry)) ⌝ }
 {
-    let start = config.place(sender, seq);
     record::load(&records[start..start + config::RECORD_SIZE])
 }
 
-// Stores the record of a slot.
-fn put(config: Config, sender: u8, seq: u8, record: Record, records: &mut [u8])
-    requires { ⌜ good config ≡ true ⌝ }
-    requires { ⌜ inRange config sender seq ≡ true ⌝ }
-    requires { ⌜ length (now records) ≡ recordsSize config ⌝ }
-    ensures { λ _. ⌜ now (records .exit) ≡ stored config sender seq (bytes «record») (now (records .entry)) ⌝ }
+// Stores a record there.
+fn put(start: usize, record: Record, records: &mut [u8])
+    requires { ⌜ start + recordSize ≤ length (now records) ⌝ }
+    ensures { λ _. ⌜ now (records .exit) ≡ replaced start (bytes «record») (now (records .entry)) ⌝ }
 {
-    let start = config.place(sender, seq);
     record.store(&mut records[start..start + config::RECORD_SIZE]);
 }
 

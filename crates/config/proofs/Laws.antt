@@ -2,19 +2,19 @@
 -- The protocol's argument rests on `quorum-intersects` and `quorum-reachable` alone, which another quorum within the same bounds would meet;
 -- `quorum-strict` is about the source's own quorum.
 -- Assumes nothing.
-use mathlib.Core.Path.{_≡_, _∙_, refl, ap}
+use mathlib.Core.Path.{_≡_, refl}
 use mathlib.Core.Bool.{Bool, true, false, and-eq-true-iff}
-use Prim.Native.Nat.{ℕ, _+_, _-_, _*_, _/_, _^_, _≤_, _<_}
+use Prim.Native.Nat.{ℕ, _+_, _-_, _*_, _/_, _≤_, _<_}
 use native.Mathlib.Nat.{not-le-of-lt}
 use native.Mathlib.Omega.{arith}
 use lib.Dec.{leb, ltb}
-use lib.Pow.{ones-split, ones-lt, high, le-ones, lt-of-le-ones}
+use lib.Pow.{le-ones, lt-of-le-ones}
 use borrow.Author.Tests.{lt-ltb, le-leb, lt-leb, leb-true, ltb-true, ltb-false}
 use Rattle.config.specs.declared.Config.{Config}
 use Rattle.signers.specs.Sets.{NodeSet, count}
-use Rattle.signers.specs.Signers.{member, within, size}
-use Rattle.signers.proofs.Members.{lt-within, within-lt, member-ones, words-share-correct}
-use Rattle.config.specs.Config.{good, quorum, mask}
+use Rattle.signers.specs.Signers.{member, below, within, size}
+use Rattle.signers.proofs.Members.{lt-within, within-lt, below-ones, member-ones, words-share-correct}
+use Rattle.config.specs.Config.{good, quorum, mask, inRange, offset, place}
 
 -- The four bounds of a good configuration.
 pub record Good (w : Config) : Type 0 where
@@ -44,12 +44,15 @@ not-good w h = go (good w) refl
     go true e = absurd (h (good-says w e))
     go false e = e
 
--- k ones shifted out of j + k leave j ones
-ones-shift : (j k : ℕ) → (2 ^ (j + k) - 1) / 2 ^ k ≡ 2 ^ j - 1
-ones-shift j k = ap (λ (x : ℕ). x / 2 ^ k) (ones-split j k) ∙ high (2 ^ j - 1) k (ones-lt k)
+-- the mask is the nodes below n
+pub mask-below : (w : Config) → good w ≡ true → below (w .n) ≡ mask w
+unfolding mask
+mask-below w e = rw e (below-ones (w .n) (good-says w e .most))
 
-pub mask-shift : (n : ℕ) → n ≤ 64 → (2 ^ 64 - 1) / 2 ^ (64 - n) ≡ 2 ^ n - 1
-mask-shift n h = let e : n + (64 - n) ≡ 64 = omega arith in rw e at (ones-shift n (64 - n))
+-- the place of a slot is its offset
+pub place-offset : (w : Config) (sender seq : ℕ) → good w ≡ true → inRange w sender seq ≡ true → place w sender seq ≡ offset sender seq
+unfolding place
+place-offset w sender seq e range = rw (e, range)
 
 -- a set is within the nodes where it is at most the mask, and only there
 pub within-mask : (w : Config) (set : ℕ) → good w ≡ true → set ≤ mask w → within set (w .n) ≡ true

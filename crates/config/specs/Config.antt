@@ -28,9 +28,13 @@ recordSize = 32
 unfoldable pub inRange : Config → ℕ → ℕ → Bool
 inRange w sender seq = ltb sender (w .n) && ltb seq slots
 
--- "sender s, number k starts at 32 × (16 × s + k)"; "the place is 0 for a sender or number out of range"
+-- "sender s, number k starts at 32 × (16 × s + k)"
+unfoldable pub offset : ℕ → ℕ → ℕ
+offset sender seq = recordSize * (slots * sender + seq)
+
+-- "a slot's place; each is 0 if the table is not good, and the place is 0 for a sender or number out of range"
 unfoldable pub place : Config → ℕ → ℕ → ℕ
-place w sender seq = cond (good w && inRange w sender seq) (recordSize * (slots * sender + seq)) 0
+place w sender seq = cond (good w && inRange w sender seq) (offset sender seq) 0
 
 -- "The records of a day lie in one lent buffer of 512 × n bytes"
 unfoldable pub recordsSize : Config → ℕ

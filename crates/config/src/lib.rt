@@ -4,13 +4,20 @@
 // has quorum 0, mask 0 and place 0. A caller asks `good` first: every set meets a quorum of 0, and 0 is
 // the place of a slot, too.
 ghost use mathlib.Core.Path.{_≡_};
-ghost use Rattle.config.specs.Config.{good, quorum, mask, place, recordsSize};
+ghost use Rattle.config.specs.Config.{good, quorum, mask, offset as offsetOf, place, recordsSize};
 
 // Slots of one sender in a day.
 pub const SLOTS: u8 = 16;
 
 // Bytes of one record, and so the distance from one slot's place to the next.
 pub const RECORD_SIZE: usize = 32;
+
+// Where the record of a slot starts in the day's buffer, for a caller that has made sure that the slot is one.
+pub fn offset(sender: u8, seq: u8) -> usize
+    ensures { λ r. ⌜ r ≡ offsetOf sender seq ⌝ }
+{
+    RECORD_SIZE * ((SLOTS as usize) * (sender as usize) + (seq as usize))
+}
 
 pub struct Config {
     // how many nodes the system has, 1 to 64
@@ -54,17 +61,17 @@ impl Config {
         (self.n as u32 + self.t as u32) / 2 + 1
     }
 
-    // The signer set of all nodes. Shifted down from 64 ones, since 1 << 64 would not fit.
+    // The signer set of all nodes.
     pub fn mask(self) -> u64
         ensures { λ r. ⌜ r ≡ mask self ⌝ }
     {
         if !self.good() {
             return 0;
         }
-        0xffff_ffff_ffff_ffff >> (64 - self.n)
+        signers::below(self.n)
     }
 
-    // Where the record of a slot starts in the day's buffer.
+    // Where the record of a slot starts in the day's buffer, or 0 where there is no such slot.
     pub fn place(self, sender: u8, seq: u8) -> usize
         ensures { λ r. ⌜ r ≡ place self sender seq ⌝ }
     {
@@ -77,7 +84,7 @@ impl Config {
         if SLOTS <= seq {
             return 0;
         }
-        RECORD_SIZE * ((SLOTS as usize) * (sender as usize) + (seq as usize))
+        offset(sender, seq)
     }
 
     // How many bytes the records of a day take.

@@ -7,12 +7,11 @@ use native.Mathlib.Nat.{pow-suc, mul-suc, div-one}
 use native.Mathlib.Omega.{arith}
 use lib.Bits.{bitOr, or-shifted}
 use lib.Pow.{shl-exact, pow-add}
-use lib.Dec.{lit≤}
 use lib.ListN.{length, getD, take, drop, length-drop, take-append-drop}
 use lib.Seq.{drop-cons, drop-drop, take-all}
 use borrow.Author.Tests.{eq-eqb, ne-eqb}
 use Rattle.octets.specs.Octets.{Bytes, number, bytesOf, part, wordOf, words}
-use Rattle.octets.proofs.Numbers.{number-lt, bytesOf-number, length-part, number-part, bytes-reverse, bytes-bytesOf}
+use Rattle.octets.proofs.Numbers.{number-lt, bytesOf-number, length-part, number-part, bytes-reverse, bytes-bytesOf, number-bytesOf}
 
 -- a byte shifted above those that follow it, and so on
 abbrev pub joined : ℕ → List ℕ → ℕ
@@ -34,6 +33,13 @@ joined-number b (c ∷ cs) h l =
     ap₂ bitOr (shl-exact 8 (8 * k) 64 (h 0) (omega arith)) (joined-number c cs (λ i. h (suc i)) (omega arith))
     ∙ or-shifted b (8 * k) (number (c ∷ cs)) below
     ∙ ap (λ (p : ℕ). b * p + number (c ∷ cs)) (sym (base k))
+
+-- and eight are read back from it
+joined-bytes : (b : ℕ) (bs : List ℕ) → Bytes (b ∷ bs) → length bs ≡ 7 → bytesOf 8 (joined b bs) ≡ b ∷ bs
+joined-bytes b bs bytes l =
+    ap (bytesOf 8) (joined-number b bs bytes (omega arith))
+    ∙ ap (λ (k : ℕ). bytesOf (suc k) (number (b ∷ bs))) (sym l)
+    ∙ bytesOf-number (b ∷ bs) bytes
 
 -- the eight bytes of a word, low byte first
 abbrev pub lowFirst : ℕ → List ℕ
@@ -58,10 +64,7 @@ bytes-lowFirst x = subst Bytes (sym (lowFirst-reverse x)) (bytes-reverse (bytesO
 
 -- joined low byte first, the bytes of a word stand in the other order
 pub joined-reverse : (x : ℕ) → bytesOf 8 (joined (x % 256) (drop 1 (lowFirst x))) ≡ reverse (bytesOf 8 x)
-joined-reverse x =
-    ap (bytesOf 8) (joined-number (x % 256) (drop 1 (lowFirst x)) (bytes-lowFirst x) (lit≤ tt))
-    ∙ bytesOf-number (lowFirst x) (bytes-lowFirst x)
-    ∙ lowFirst-reverse x
+joined-reverse x = joined-bytes (x % 256) (drop 1 (lowFirst x)) (bytes-lowFirst x) refl ∙ lowFirst-reverse x
 
 -- the k elements from index i on, one by one
 abbrev pub elements : List ℕ → ℕ → ℕ → List ℕ
@@ -74,6 +77,14 @@ elements-part xs i zero h = refl
 elements-part xs i (suc k) h =
     let room : i < length xs = omega arith in
     ap (λ (r : List ℕ). getD xs i 0 ∷ r) (elements-part xs (suc i) k (omega arith)) ∙ sym (ap (take (suc k)) (drop-cons xs i 0 room))
+
+-- eight bytes, joined last first, stand in the other order
+pub joined-elements : (xs : List ℕ) → length xs ≡ 8 → Bytes xs
+    → bytesOf 8 (joined (getD xs 7 0) (drop 1 (reverse (elements xs 0 8)))) ≡ reverse xs
+joined-elements xs l bytes =
+    let whole : elements xs 0 8 ≡ xs = elements-part xs 0 8 (omega arith) ∙ take-all 8 xs (omega arith) in
+    joined-bytes (getD xs 7 0) (drop 1 (reverse (elements xs 0 8))) (bytes-reverse (elements xs 0 8) (subst Bytes (sym whole) bytes)) refl
+    ∙ ap reverse whole
 
 -- a word is the number of its eight bytes,
 pub word-number : (xs : List ℕ) → length xs ≡ 8 → wordOf xs ≡ number xs
@@ -89,13 +100,9 @@ word-other xs h = rw (ne-eqb (length xs) 8 h)
 pub word-bytes : (xs : List ℕ) (i : ℕ) → i + 8 ≤ length xs → Bytes xs → bytesOf 8 (wordOf (part i 8 xs)) ≡ part i 8 xs
 word-bytes xs i h bytes = ap (bytesOf 8) (word-number (part i 8 xs) (length-part xs i 8 h)) ∙ number-part xs i 8 bytes h
 
--- eight bytes, joined, are their word
-pub joined-word : (xs : List ℕ) → length xs ≡ 8 → Bytes xs → joined (getD xs 0 0) (elements xs 1 7) ≡ wordOf xs
-joined-word xs l bytes =
-    let whole : elements xs 0 8 ≡ xs = elements-part xs 0 8 (omega arith) ∙ take-all 8 xs (omega arith) in
-    joined-number (getD xs 0 0) (elements xs 1 7) (subst Bytes (sym whole) bytes) (lit≤ tt)
-    ∙ ap number whole
-    ∙ sym (word-number xs l)
+-- a number that has these eight bytes is their word
+pub word-unique : (xs : List ℕ) (x : ℕ) → length xs ≡ 8 → x < 2 ^ 64 → bytesOf 8 x ≡ xs → x ≡ wordOf xs
+word-unique xs x l h e = sym (number-bytesOf 8 x h) ∙ ap number e ∙ sym (word-number xs l)
 
 -- 32 bytes are their four words
 pub words-joined : (xs : List ℕ) → length xs ≡ 32 → Bytes xs

@@ -1,6 +1,6 @@
 // Eight-byte words in slices of bytes, high byte first.
 //
-// A word is read by shifts and written low byte first from its reverse: in these shapes the compiler
+// A word is read and written low byte first, from or to its reverse: in these shapes the compiler
 // joins the eight bytes into one load or store.
 ghost use mathlib.Core.Path.{_≡_};
 ghost use mathlib.Core.List.{_++_, reverse};
@@ -15,12 +15,7 @@ pub fn word(bytes: &[u8]) -> u64
     if bytes.len() != 8 {
         return 0;
     }
-    (wide(bytes[0]) << 56)
-        | ((wide(bytes[1]) << 48)
-            | ((wide(bytes[2]) << 40)
-                | ((wide(bytes[3]) << 32)
-                    | ((wide(bytes[4]) << 24)
-                        | ((wide(bytes[5]) << 16) | ((wide(bytes[6]) << 8) | wide(bytes[7])))))))
+    reversed(low_first(bytes))
 }
 
 // Writes four words over a slice of 32 bytes. A slice of another length stays as it is.
@@ -60,6 +55,20 @@ fn put(bytes: &mut [u8], at: usize, x: u64)
     bytes[at + 5] = (y / 0x100_0000_0000 % 256) as u8;
     bytes[at + 6] = (y / 0x1_0000_0000_0000 % 256) as u8;
     bytes[at + 7] = (y / 0x100_0000_0000_0000 % 256) as u8;
+}
+
+// Eight bytes, the first the lowest: in this order the compiler makes one load of them before it
+// looks at the callers.
+fn low_first(bytes: &[u8]) -> u64
+    requires { ⌜ length (now bytes) ≡ 8 ⌝ }
+    ensures { λ r. ⌜ bytesOf 8 r ≡ reverse (now (bytes .entry)) ⌝ }
+{
+    (wide(bytes[7]) << 56)
+        | ((wide(bytes[6]) << 48)
+            | ((wide(bytes[5]) << 40)
+                | ((wide(bytes[4]) << 32)
+                    | ((wide(bytes[3]) << 24)
+                        | ((wide(bytes[2]) << 16) | ((wide(bytes[1]) << 8) | wide(bytes[0])))))))
 }
 
 // The same eight bytes in the other order.

@@ -1,7 +1,7 @@
 -- Taking a bundle, one case after the other, as the code meets them, and what a step says of it.
 -- Assumes nothing.
-use mathlib.Core.Path.{_≡_, refl}
-use mathlib.Core.Bool.{true, false, and-false}
+use mathlib.Core.Path.{_≡_, refl, sym, _∙_}
+use mathlib.Core.Bool.{Bool, true, false, and-false}
 use mathlib.Core.List.{List}
 use Prim.Native.Nat.{ℕ, _≤_, _<_}
 use borrow.Author.Tests.{le-leb, lt-leb, lt-ltb, le-ltb}
@@ -9,8 +9,11 @@ use Rattle.octets.specs.Octets.{same}
 use Rattle.octets.proofs.Same.{same-self}
 use Rattle.signers.specs.Signers.{member, insert, union, size}
 use Rattle.refusal.specs.Outcome.{Outcome, refused, done, unless}
+use Rattle.refusal.proofs.Reasons.{refused-not-done}
 use Rattle.protocol.specs.Slot.{Answer, Turn, Empty, Held, Delivered, kept, signed, delivered, updateReasons, gathered, updated, update}
-use Rattle.record.specs.Record.{bytes, imaged}
+use Rattle.config.specs.declared.Config.{Config}
+use Rattle.config.specs.Config.{quorum}
+use Rattle.record.specs.Record.{bytes, recordIn, wellFormed, received, imaged}
 use Rattle.record.proofs.Words.{content, image-held, image-delivered}
 
 module _ (own q signers : ℕ) (payload : List ℕ) where
@@ -76,3 +79,23 @@ module _ (outcome : Outcome Turn) (signers found high low : ℕ) (same-signers :
       → done (answer, bytes (record { head = 0x100_0000_0000_0000; signers = found; high = high; low = low })) ≡ imaged outcome
   unfolding imaged bytes
   step-held answer e = rw (e, same-signers, image-held signers high low)
+
+-- a bundle on a record: an unsound one refuses it, and on a sound one it does what the step says
+module _ (w : Config) (sender signers : ℕ) (payload found : List ℕ) where
+  pub received-malformed : wellFormed w sender found ≡ false → received w sender signers payload found ≡ refused 21
+  unfolding received unless
+  received-malformed e = rw e
+
+  pub received-sound : wellFormed w sender found ≡ true → received w sender signers payload found ≡ update (w .own) (quorum w) signers payload (recordIn found)
+  unfolding received unless
+  received-sound e = rw e
+
+  -- what was done was done on a sound record
+  pub received-done : (turn : Turn) → received w sender signers payload found ≡ done turn
+      → (wellFormed w sender found ≡ true) × (update (w .own) (quorum w) signers payload (recordIn found) ≡ done turn)
+  received-done turn e = go (wellFormed w sender found) refl
+    where
+      go : (b : Bool) → wellFormed w sender found ≡ b
+          → (wellFormed w sender found ≡ true) × (update (w .own) (quorum w) signers payload (recordIn found) ≡ done turn)
+      go true f = (f, sym (received-sound f) ∙ e)
+      go false f = absurd (refused-not-done 21 turn (sym (received-malformed f) ∙ e))

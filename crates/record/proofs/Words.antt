@@ -1,8 +1,9 @@
 -- A record as four words: its state, signers and payload, and when it is sound.
 -- Assumes nothing.
 use mathlib.Core.Path.{_≡_, refl, sym, ap, ap₂, _∙_}
-use mathlib.Core.Bool.{Bool, true, false, _&&_, and-false, and-eq-true-iff}
+use mathlib.Core.Bool.{Bool, true, false, cond, true≢false, _&&_, and-false, and-eq-true-iff}
 use mathlib.Core.List.{List, _++_}
+use mathlib.Core.Logic.{inl, inr}
 use Prim.Native.Nat.{ℕ, _+_, _*_, _/_, _%_, _^_, _<_}
 use native.Mathlib.Nat.{mod-eq-of-lt, mod-lt}
 use native.Mathlib.Omega.{arith}
@@ -14,14 +15,14 @@ use Rattle.octets.specs.Octets.{Bytes, bytesOf, same, blank, part, wordOf, word
 use Rattle.octets.proofs.Numbers.{length-bytesOf, number-bytesOf, bytesOf-low}
 use Rattle.octets.proofs.Joined.{words-joined}
 use Rattle.octets.proofs.Same.{same-append, same-bytesOf, blank-words}
-use Rattle.signers.specs.Signers.{within, member, size}
-use Rattle.signers.proofs.Members.{lt-within}
+use Rattle.signers.specs.Signers.{within, below, insert, member, size}
+use Rattle.signers.proofs.Members.{lt-within, within-below, meets-node}
 use Rattle.config.specs.declared.Config.{Config}
 use Rattle.config.specs.Config.{quorum, recordSize}
 use Rattle.protocol.specs.Slot as slot
 use Rattle.protocol.specs.Slot.{Empty, Held, Delivered}
 use Rattle.record.specs.declared.Record.{Record}
-use Rattle.record.specs.Record.{fields, image, stateIn, signersIn, payloadIn, recordIn, fits, wellFormed, bytes, loaded}
+use Rattle.record.specs.Record.{fields, image, stateIn, signersIn, payloadIn, recordIn, fits, wellFormed, bytes, loaded, Stated, soundBy}
 
 -- the weight of the first byte of eight
 abbrev top : ℕ
@@ -184,3 +185,49 @@ module _ (r : Record) (h : r .head < 2 ^ 64) where
             let small = ltb-true (r .head / top) 3 x in
             let whole = eqb-true (r .head % top) 0 y in
             absurd (omega arith)
+
+    -- ---- the same by sets that a caller has
+
+    -- the tests of `soundBy`, with what the sets stand for
+    tests : Bool → Bool → Bool → Bool → Bool → Bool
+    tests empty inside held sender delivered =
+        cond empty (blank (bytes r))
+        (inside
+        && cond held (sender && member (r .signers) (w .own))
+        (sender && (delivered && leb (quorum w) (size (r .signers)))))
+
+    pub sound-by : r .high < 2 ^ 64 → r .low < 2 ^ 64
+        → soundBy (below (w .n)) (quorum w) (insert 0 (w .own)) (insert 0 sender) r ≡ wellFormed w sender (bytes r)
+    unfolding soundBy tests
+    sound-by hh hl =
+        rw (within-below (r .signers) (w .n) s, meets-node (r .signers) sender s, meets-node (r .signers) (w .own) s)
+        (go (eqb (r .head) 0) refl (within (r .signers) (w .n)) refl (eqb (r .head) top) refl (member (r .signers) sender) refl (eqb (r .head) 0x200_0000_0000_0000) refl)
+      where
+        go : (a : Bool) → eqb (r .head) 0 ≡ a → (i : Bool) → within (r .signers) (w .n) ≡ i → (b : Bool) → eqb (r .head) top ≡ b
+            → (m : Bool) → member (r .signers) sender ≡ m → (d : Bool) → eqb (r .head) 0x200_0000_0000_0000 ≡ d
+            → tests a i b m d ≡ wellFormed w sender (bytes r)
+        go true e i x b y m z d v = sym (sound-empty hh hl (eqb-true (r .head) 0 e))
+        go false e false x b y m z d v = sym (unsound-past x)
+        go false e true x true y false z d v = sym (unsound-unsigned (eqb-false (r .head) 0 e) z)
+        go false e true x true y true z d v = sym (sound-held (eqb-true (r .head) top y) x z)
+        go false e true x false y false z d v = sym (unsound-unsigned (eqb-false (r .head) 0 e) z)
+        go false e true x false y true z true v = sym (sound-delivered (eqb-true (r .head) 0x200_0000_0000_0000 v) x z)
+        go false e true x false y true z false v =
+            sym (unsound-state (eqb-false (r .head) 0 e) (eqb-false (r .head) top y) (eqb-false (r .head) 0x200_0000_0000_0000 v))
+
+    -- a sound record's first word is a state and seven zero bytes
+    pub sound-stated : wellFormed w sender (bytes r) ≡ true → Stated r
+    sound-stated ok = go (eqb (r .head) 0) refl (eqb (r .head) top) refl (eqb (r .head) 0x200_0000_0000_0000) refl
+      where
+        go : (a : Bool) → eqb (r .head) 0 ≡ a → (b : Bool) → eqb (r .head) top ≡ b → (d : Bool) → eqb (r .head) 0x200_0000_0000_0000 ≡ d → Stated r
+        go true e b y d v = inl (eqb-true (r .head) 0 e)
+        go false e true y d v = inr (inl (eqb-true (r .head) top y))
+        go false e false y true v = inr (inr (eqb-true (r .head) 0x200_0000_0000_0000 v))
+        go false e false y false v =
+            absurd (true≢false (sym ok ∙ unsound-state (eqb-false (r .head) 0 e) (eqb-false (r .head) top y) (eqb-false (r .head) 0x200_0000_0000_0000 v)))
+
+-- one that is neither empty nor delivered is held
+pub stated-held : (r : Record) → Stated r → (r .head ≡ 0 → ⊥) → (r .head ≡ 0x200_0000_0000_0000 → ⊥) → r .head ≡ top
+stated-held r (inl e) some open-yet = absurd (some e)
+stated-held r (inr (inl e)) some open-yet = e
+stated-held r (inr (inr e)) some open-yet = absurd (open-yet e)

@@ -1,14 +1,16 @@
 -- Document 01, "Bundle and record": the 32 bytes in which a node keeps what it has of a slot, and when they are sound.
 -- Assumes nothing.
-use mathlib.Core.Bool.{Bool, cond, _&&_}
-use mathlib.Core.List.{List, _∷_, _++_}
+use mathlib.Core.Path.{_≡_}
+use mathlib.Core.Logic.{_⊎_}
+use mathlib.Core.Bool.{Bool, not, cond, _&&_}
+use mathlib.Core.List.{List, [], _∷_, _++_}
 use Prim.Native.Nat.{ℕ}
 use lib.Dec.{ltb, leb, eqb}
 use lib.ListN.{length, getD, replicate}
 use Rattle.octets.specs.Octets.{number, bytesOf, part, blank, words}
-use Rattle.signers.specs.Signers.{member, within, size}
+use Rattle.signers.specs.Signers.{member, meets, within, size}
 use Rattle.refusal.specs.Refusal.{numberOf}
-use Rattle.refusal.specs.Outcome.{Outcome, refused, done, _and-then_}
+use Rattle.refusal.specs.Outcome.{Outcome, refused, done, _if_, checked, _and-then_}
 use Rattle.config.specs.declared.Config.{Config}
 use Rattle.config.specs.Config.{quorum, recordSize}
 use Rattle.protocol.specs.Slot as slot
@@ -63,6 +65,23 @@ bytes r = words (r .head) (r .signers) (r .high) (r .low)
 -- what is loaded from a slice: its bytes, and an empty record from a slice of another length
 unfoldable pub loaded : List ℕ → List ℕ
 loaded xs = cond (eqb (length xs) recordSize) xs (replicate recordSize 0)
+
+-- a record that is sound but perhaps for its signers: its first word is a state and seven zero bytes
+abbrev pub Stated : Record → Type 0
+Stated r = (r .head ≡ 0) ⊎ ((r .head ≡ 0x100_0000_0000_0000) ⊎ (r .head ≡ 0x200_0000_0000_0000))
+
+-- soundness against sets and a quorum that the caller has: all nodes, our own, the sender. With those of a table and a sender it is `wellFormed`.
+unfoldable pub soundBy : ℕ → ℕ → ℕ → ℕ → Record → Bool
+soundBy all q own sender r =
+    cond (eqb (r .head) 0) (blank (bytes r))
+    (leb (r .signers) all
+    && cond (eqb (r .head) 0x100_0000_0000_0000) (meets (r .signers) sender && meets (r .signers) own)
+    (meets (r .signers) sender && (eqb (r .head) 0x200_0000_0000_0000 && leb q (size (r .signers)))))
+
+-- taking a bundle on a record that may be unsound
+unfoldable pub received : Config → ℕ → ℕ → List ℕ → List ℕ → Outcome Turn
+received w sender signers payload bytes =
+    checked ((21 if not (wellFormed w sender bytes)) ∷ []) and-then λ _. slot.update (w .own) (quorum w) signers payload (recordIn bytes)
 
 -- the number and values of each case of a step, the record by its bytes
 abbrev pub stepOf : Step.Step → Outcome (Answer × List ℕ)

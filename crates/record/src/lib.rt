@@ -12,7 +12,7 @@ ghost use lib.ListN.{length};
 ghost use Rattle.octets.specs.Octets.{bytesOf, blank, same};
 ghost use Rattle.config.specs.Config.{quorum, recordSize};
 ghost use Rattle.protocol.specs.Slot.{update as updateOf, Empty, Held, isDelivered};
-ghost use Rattle.record.specs.Record.{bytes as bytesIn, loaded, wellFormed, recordIn, stepOf, imaged};
+ghost use Rattle.record.specs.Record.{bytes as bytesIn, loaded, wellFormed, recordIn, Stated, soundBy, received, stepOf, imaged};
 
 // The first word of a record: its state in the highest byte, the others zero.
 pub const HELD: u64 = 0x100_0000_0000_0000;
@@ -88,20 +88,37 @@ impl Record {
     pub fn well_formed(self, config: Config, sender: u8) -> bool
         ensures { λ r. ⌜ r ≡ wellFormed config sender (bytesIn self) ⌝ }
     {
+        self.sound(
+            signers::below(config.n),
+            config.quorum(),
+            signers::insert(0, config.own),
+            signers::insert(0, sender),
+        )
+    }
+
+    // The same for a caller that looks at many records and has the sets already: all nodes, our own and
+    // the sender. The sender is asked for in each branch: before them, the compiler joins two tests into
+    // flags, which costs more than both.
+    pub fn sound(self, all: u64, quorum: u32, own: u64, sender: u64) -> bool
+        ensures { λ r. ⌜ r ≡ soundBy all quorum own sender self ⌝ }
+    {
         if self.head == 0 {
             return self.is_blank();
         }
-        if !signers::within(self.signers, config.n) {
-            return false;
-        }
-        if !signers::member(self.signers, sender) {
+        if all < self.signers {
             return false;
         }
         if self.head == HELD {
-            return signers::member(self.signers, config.own);
+            if !signers::meets(self.signers, sender) {
+                return false;
+            }
+            return signers::meets(self.signers, own);
+        }
+        if !signers::meets(self.signers, sender) {
+            return false;
         }
         if self.head == DELIVERED {
-            return config.quorum() <= signers::size(self.signers);
+            return quorum <= signers::size(self.signers);
         }
         false
     }
@@ -113,21 +130,15 @@ impl Record {
         1 < self.head / HELD
     }
 
-    // What a bundle with these signers and this payload, given as two words, does to the record.
-    pub fn update(self, config: Config, signers: u64, high: u64, low: u64) -> Step
-        ensures { λ r. ⌜ stepOf r ≡ imaged (updateOf (config .own) (quorum config) signers (bytesOf 8 high ++ bytesOf 8 low) (recordIn (bytesIn self))) ⌝ }
+    // What a bundle with these signers and this payload, given as two words, does to the record of a slot of
+    // the sender.
+    pub fn receive(self, config: Config, sender: u8, signers: u64, high: u64, low: u64) -> Step
+        ensures { λ r. ⌜ stepOf r ≡ imaged (received config sender signers (bytesOf 8 high ++ bytesOf 8 low) (bytesIn self)) ⌝ }
     {
-        let state = self.head / HELD;
-        if 1 < state {
-            return Step::Refused(Refusal::AlreadyDelivered);
+        if !self.well_formed(config, sender) {
+            return Step::Refused(Refusal::MalformedRecord);
         }
-        if state == 0 {
-            return sign(config, signers, high, low);
-        }
-        if self.holds(high, low) {
-            return join(config, self.signers, signers, high, low);
-        }
-        replace(config, self, signers, high, low)
+        self.update(config, signers, high, low)
     }
 }
 
@@ -140,6 +151,25 @@ impl Record {
             return false;
         }
         self.low == low
+    }
+
+    // What a bundle does to a record that is sound. Its first word is tested as it is in `sound`, so that the
+    // compiler tests it once.
+    fn update(self, config: Config, signers: u64, high: u64, low: u64) -> Step
+        requires { ⌜ Stated self ⌝ }
+        ensures { λ r. ⌜ stepOf r ≡ imaged (updateOf (config .own) (quorum config) signers (bytesOf 8 high ++ bytesOf 8 low) (recordIn (bytesIn self))) ⌝ }
+    {
+        let state = self.head;
+        if state == DELIVERED {
+            return Step::Refused(Refusal::AlreadyDelivered);
+        }
+        if state == 0 {
+            return sign(config, signers, high, low);
+        }
+        if self.holds(high, low) {
+            return join(config, self.signers, signers, high, low);
+        }
+        replace(config, self, signers, high, low)
     }
 }
 

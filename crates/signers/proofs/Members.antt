@@ -1,19 +1,19 @@
 -- Words as sets of nodes: the members of a union and of an insertion, what it means that a word is within n, and that the count of a word's ones
 -- is the number of its members. From the definitions of specs/Signers.antt and the laws of counts, for words of any length n. Assumes nothing.
-use mathlib.Core.Bool.{Bool, true, false, cond, _&&_, _||_, true≢false, and-false, or-false, or-true}
+use mathlib.Core.Bool.{Bool, true, false, not, cond, _&&_, _||_, true≢false, and-false, or-false, or-true}
 use mathlib.Core.Logic.{_⊎_, inl, inr}
 use mathlib.Core.Path.{_≡_, refl, sym, ap, ap₂, _∙_}
 use Prim.Native.Nat.{ℕ, zero, suc, _+_, _*_, _/_, _%_, _^_, _-_, _≤_, _<_, zero-le, suc-le-suc}
-use native.Mathlib.Nat.{eq-zero-or-pos, zero-lt-suc, lt-of-lt-of-le, lt-of-not-le, lt-suc-self, one-mul, pow-suc, mod-lt, mul-mod-left, div-one, div-eq-of-lt, div-eq-of-lt-le, div-lt-iff-lt-mul}
+use native.Mathlib.Nat.{eq-zero-or-pos, zero-lt-suc, lt-of-lt-of-le, lt-of-not-le, lt-suc-self, one-mul, pow-suc, mod-lt, mul-mod-left, div-one, div-eq-of-lt, div-eq-of-lt-le}
 use native.Mathlib.Numerals.{one-add}
 use native.Mathlib.Omega.{arith}
-use borrow.Author.Tests.{ltb-true, lt-ltb, le-ltb, eqb-true, eq-eqb, ne-eqb}
-use lib.Bits.{bitAnd, bitOr, or-shr, or-mod, or-lt, and-shr, and-mod, and-lt}
+use borrow.Author.Tests.{ltb-true, ltb-false, lt-ltb, le-ltb, leb-true, leb-false, le-leb, lt-leb, eqb-true, eq-eqb, ne-eqb}
+use lib.Bits.{bitAnd, bitOr, or-shr, or-mod, or-lt, and-shr, and-mod, and-lt, and-zero-r}
 use lib.Count.{ones-step, ones-le, leading-top}
-use lib.Dec.{ltb, eqb, leb·suc-suc, eqb·suc-suc, eqb·zero-suc, eqb·suc-zero, lit<}
-use lib.Pow.{pow-pos, pow-mono, pow-lt, shr-shr, shl-exact}
+use lib.Dec.{ltb, leb, eqb, leb·suc-suc, eqb·suc-suc, eqb·zero-suc, eqb·suc-zero, lit<}
+use lib.Pow.{pow-pos, pow-mono, pow-lt, shr-shr, shl-exact, ones-split, ones-lt, high, le-ones, lt-of-le-ones}
 use Rattle.signers.specs.Sets.{NodeSet, one, count, both, either}
-use Rattle.signers.specs.Signers.{member, insert, union, size, within}
+use Rattle.signers.specs.Signers.{member, insert, union, size, meets, below, within}
 use Rattle.signers.proofs.Counting.{count-same, count-mono, count-none, count-single, count-some, count-first, count-either, quorums-share-correct}
 
 -- ---- the bits of a word
@@ -157,17 +157,41 @@ pub lt-within : (a n : ℕ) → a < 2 ^ n → within a n ≡ true
 unfolding within
 lt-within a n = lt-ltb a (2 ^ n)
 
--- and where nothing is left when the lowest n bits are shifted out
-pub shifted-out : (a n : ℕ) → eqb (a / 2 ^ n) 0 ≡ within a n
-shifted-out a n = go (within a n) refl
+-- k ones shifted out of j + k leave j ones
+ones-shift : (j k : ℕ) → (2 ^ (j + k) - 1) / 2 ^ k ≡ 2 ^ j - 1
+ones-shift j k = ap (λ (x : ℕ). x / 2 ^ k) (ones-split j k) ∙ high (2 ^ j - 1) k (ones-lt k)
+
+-- the nodes below n: n ones, which 64 ones shifted down by 64 - n are, and 64 of them for any n above
+pub below-ones : (n : ℕ) → n ≤ 64 → below n ≡ 2 ^ n - 1
+unfolding below
+below-ones n h = rw (le-leb n 64 h)
+
+pub below-shift : (n : ℕ) → n ≤ 64 → (2 ^ 64 - 1) / 2 ^ (64 - n) ≡ below n
+below-shift n h =
+    let e : n + (64 - n) ≡ 64 = omega arith in
+    let shifted : (2 ^ 64 - 1) / 2 ^ (64 - n) ≡ 2 ^ n - 1 = rw e at (ones-shift n (64 - n)) in
+    shifted ∙ sym (below-ones n h)
+
+pub below-past : (n : ℕ) → 64 < n → below n ≡ 2 ^ 64 - 1
+unfolding below
+below-past n h = rw (lt-leb n 64 h)
+
+-- a word of 64 bits is within n where it is at most that, and only there
+pub within-below : (a n : ℕ) → a < 2 ^ 64 → leb a (below n) ≡ within a n
+within-below a n word = go (leb n 64) refl
   where
-    go : (b : Bool) → within a n ≡ b → eqb (a / 2 ^ n) 0 ≡ b
-    go true e = eq-eqb (a / 2 ^ n) 0 (div-eq-of-lt (within-lt a n e))
+    small : n ≤ 64 → (b : Bool) → within a n ≡ b → leb a (below n) ≡ b
+    small h true e = rw (below-ones n h) (le-leb a (2 ^ n - 1) (le-ones n (within-lt a n e)))
+    small h false e =
+        rw (below-ones n h) (lt-leb a (2 ^ n - 1) (lt-of-not-le (λ l. true≢false (sym (lt-within a n (lt-of-le-ones n l)) ∙ e))))
+
+    go : (b : Bool) → leb n 64 ≡ b → leb a (below n) ≡ within a n
+    go true e = small (leb-true n 64 e) (within a n) refl
     go false e =
-        ne-eqb (a / 2 ^ n) 0 (λ z.
-        let small : a / 2 ^ n < 1 = omega arith in
-        let below = div-lt-iff-lt-mul (pow-pos n) .0 small in
-        true≢false (sym (lt-within a n (omega arith)) ∙ e))
+        let past : 64 < n = leb-false n 64 e in
+        let wide : 64 ≤ n = omega arith in
+        rw (below-past n past) (le-leb a (2 ^ 64 - 1) (le-ones 64 word))
+        ∙ sym (lt-within a n (lt-of-lt-of-le word (pow-mono wide)))
 
 -- every member of a word within n is below n
 pub within-says : (a n u : ℕ) → within a n ≡ true → member a u ≡ true → u < n
@@ -271,6 +295,32 @@ insert-known a v h present =
     joined : (u : ℕ) (b : Bool) → eqb u v ≡ b → (member a u || eqb u v) ≡ member a u
     joined u true e = rw (eqb-true u v e, present)
     joined u false e = rw e (or-false (member a u))
+
+-- a word meets a single node where that node is in it. One without a bit is in no word.
+pub meets-node : (a v : ℕ) → a < 2 ^ 64 → meets a (insert 0 v) ≡ member a v
+unfolding meets
+meets-node a v word = go (ltb v 64) refl
+  where
+    common : v < 64 → (u : ℕ) → member (bitAnd a (insert 0 v)) u ≡ (member a u && eqb u v)
+    common h u = member-common a (insert 0 v) u ∙ ap (λ p. member a u && p) (member-insert 0 v u h ∙ ap (λ p. p || eqb u v) (nobody u))
+
+    single : v < 64 → (b : Bool) → member a v ≡ b → not (eqb (bitAnd a (insert 0 v)) 0) ≡ b
+    single h true e =
+        let own : member (bitAnd a (insert 0 v)) v ≡ true = common h v ∙ rw (e, eq-eqb v v refl) in
+        rw (ne-eqb (bitAnd a (insert 0 v)) 0 (λ z. true≢false (sym own ∙ ap (λ x. member x v) z ∙ nobody v)))
+    single h false e =
+        let none : bitAnd a (insert 0 v) ≡ 0 = same-members (bitAnd a (insert 0 v)) 0 64 (and-lt 64 a (insert 0 v) word (rw (insert-bit 0 v h) (or-lt 64 0 (2 ^ v) (pow-pos 64) (pow-lt h)))) (pow-pos 64) (λ u l. common h u ∙ apart e u (eqb u v) refl ∙ sym (nobody u)) in
+        rw (eq-eqb (bitAnd a (insert 0 v)) 0 none)
+      where
+        apart : member a v ≡ false → (u : ℕ) (b : Bool) → eqb u v ≡ b → (member a u && eqb u v) ≡ false
+        apart absent u true q = rw (eqb-true u v q, absent)
+        apart absent u false q = rw q (and-false (member a u))
+
+    go : (b : Bool) → ltb v 64 ≡ b → not (eqb (bitAnd a (insert 0 v)) 0) ≡ member a v
+    go true e = single (ltb-true v 64 e) (member a v) refl
+    go false e =
+        let past : 64 ≤ v = ltb-false v 64 e in
+        rw (insert-past 0 v past, and-zero-r a) (sym (member-below a 64 v word past))
 
 -- two words that hold a quorum each share a correct node
 pub words-share-correct : (a b n t k : ℕ) (faulty : NodeSet) → within a n ≡ true → within b n ≡ true → n + t < k + k → count faulty n ≤ t

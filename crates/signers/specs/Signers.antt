@@ -1,9 +1,9 @@
 -- Document 01, "Bundle and record": "Signers is a 64-bit word; bit u (weight 2 to the power u) stands for unit u."
 -- Assumes nothing.
-use mathlib.Core.Bool.{Bool, cond}
-use Prim.Native.Nat.{ℕ, _/_, _%_, _^_}
-use lib.Dec.{eqb, ltb}
-use lib.Bits.{bitOr}
+use mathlib.Core.Bool.{Bool, not, cond}
+use Prim.Native.Nat.{ℕ, _-_, _/_, _%_, _^_}
+use lib.Dec.{eqb, ltb, leb}
+use lib.Bits.{bitAnd, bitOr}
 use lib.Count.{ones}
 
 -- bit u of the word is set
@@ -21,6 +21,14 @@ union a b = bitOr a b
 -- how many bits are set
 abbrev pub size : ℕ → ℕ
 size set = ones set
+
+-- a bit that both words have
+unfoldable pub meets : ℕ → ℕ → Bool
+meets a b = not (eqb (bitAnd a b) 0)
+
+-- bits 0 to n - 1; a word has 64 bits
+unfoldable pub below : ℕ → ℕ
+below n = cond (leb n 64) (2 ^ n - 1) (2 ^ 64 - 1)
 
 -- no bit at n or above is set
 unfoldable pub within : ℕ → ℕ → Bool

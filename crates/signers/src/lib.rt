@@ -3,7 +3,7 @@
 // A bundle and a record keep the nodes that signed a payload as such a word. Every function is
 // defined for every argument; a node number of 64 or more has no bit, so no set has it.
 ghost use mathlib.Core.Path.{_≡_};
-ghost use Rattle.signers.specs.Signers.{member as isMember, insert as inserted, union as united, size as sized, within as isWithin};
+ghost use Rattle.signers.specs.Signers.{member as isMember, insert as inserted, union as united, size as sized, meets as isMet, below as allBelow, within as isWithin};
 
 // Whether `node` is in `set`.
 pub fn member(set: u64, node: u8) -> bool
@@ -39,12 +39,29 @@ pub fn size(set: u64) -> u32
     u64::count_ones(set)
 }
 
+// Whether some node is in both sets.
+pub fn meets(a: u64, b: u64) -> bool
+    ensures { λ r. ⌜ r ≡ isMet a b ⌝ }
+{
+    a & b != 0
+}
+
+// The nodes below `n`. The tests are such that none is left where n is known to be 1 to 64.
+pub fn below(n: u8) -> u64
+    ensures { λ r. ⌜ r ≡ allBelow n ⌝ }
+{
+    if n == 0 {
+        return 0;
+    }
+    if 64 < n {
+        return 0xffff_ffff_ffff_ffff;
+    }
+    0xffff_ffff_ffff_ffff >> (64 - n)
+}
+
 // Whether no node of `set` is `n` or above.
 pub fn within(set: u64, n: u8) -> bool
     ensures { λ r. ⌜ r ≡ isWithin set n ⌝ }
 {
-    if 64 <= n {
-        return true;
-    }
-    set >> n == 0
+    set <= below(n)
 }

@@ -1,18 +1,21 @@
 -- `check_delivered` meets its contract: each refusal follows from the tests passed before it. Assumes nothing.
 use mathlib.Core.Bool.{true}
 use mathlib.Core.Path.{_≡_, sym, ap, _∙_}
+use Prim.Native.Nat.{ℕ}
 use lib.ListN.{length}
 use borrow.Author.Tests.{not-true, not-false}
-use Rattle.config.specs.Config.{good, recordsSize}
+use Rattle.octets.specs.Octets.{part}
+use Rattle.config.specs.Config.{good, inRange, recordSize, recordsSize}
 use Rattle.protocol.specs.Slot.{isDelivered}
-use Rattle.record.specs.Record.{wellFormed, recordIn}
+use Rattle.record.specs.Record.{wellFormed, recordIn, bytes}
 use Rattle.calls.specs.Records.{recordAt}
-use Rattle.calls.proofs.Room.{in-range}
+use Rattle.calls.proofs.Room.{in-range, offset-room, offset-record}
 use Rattle.calls.proofs.Refusals.{delivered-bad, delivered-sender, delivered-seq, delivered-size, delivered-malformed, delivered-not, delivered-done}
 use borrow.Author.Needs.{needs}
 use Rattle.calls.proofs.check_delivered.Statement.{statement}
 use Rattle.calls.proofs.check_delivered.Tie as tie
 use Rattle.calls.proofs.get.Reads as get-reads
+use Rattle.config.proofs.offset.Reads as offset-reads
 use Rattle.config.proofs.Config.good.Reads as good-reads
 use Rattle.config.proofs.Config.records_size.Reads as records-size-reads
 use Rattle.record.proofs.Record.is_delivered.Reads as is-delivered-reads
@@ -27,7 +30,7 @@ abbrev ranged : tie.Else4 → tie.Else3
 ranged c = c .before .before
 
 abbrev sized : tie.After-well-formed → tie.Else4
-sized c = c .before .before
+sized c = c .before .before .before
 
 abbrev given : tie.Else4 → tie.Start
 given c = c .before .before .before .before .before .before .before .before
@@ -38,14 +41,24 @@ good-known c = sym (c .before .good2 .ensures) ∙ not-false _ (c .if1 .left)
 long-known : (c : tie.Else4) → length (given c .args .records .now) ≡ recordsSize (given c .args .config)
 long-known c = c .if4 .left ∙ c .before .records-size .ensures
 
--- what `well_formed` and `is_delivered` answer of the record
+range-known : (c : tie.Else4) → inRange (given c .args .config) (given c .args .sender) (given c .args .seq) ≡ true
+range-known c = in-range _ _ _ (ranged c .before .if2 .left) (ranged c .if3 .left)
+
+-- the record that was loaded is the slot's
+record-known : (c : tie.After-get) → bytes (c .get .result) ≡ recordAt (given (c .before .before) .args .config) (given (c .before .before) .args .sender) (given (c .before .before) .args .seq) (given (c .before .before) .args .records .now)
+record-known c =
+    c .get .ensures
+    ∙ ap (λ (k : ℕ). part k recordSize (given (c .before .before) .args .records .now)) (c .before .offset .ensures)
+    ∙ offset-record _ _ _ (good-known (configured (ranged (c .before .before) .before))) (range-known (c .before .before)) _
+
+-- what `well_formed` and `is_delivered` answer of it
 sound-known : (c : tie.After-well-formed) → c .well-formed .result
     ≡ wellFormed (given (sized c) .args .config) (given (sized c) .args .sender) (recordAt (given (sized c) .args .config) (given (sized c) .args .sender) (given (sized c) .args .seq) (given (sized c) .args .records .now))
-sound-known c = c .well-formed .ensures ∙ ap (wellFormed (given (sized c) .args .config) (given (sized c) .args .sender)) (c .before .get .ensures)
+sound-known c = c .well-formed .ensures ∙ ap (wellFormed (given (sized c) .args .config) (given (sized c) .args .sender)) (record-known (c .before))
 
 delivered-known : (c : tie.After-is-delivered) → c .is-delivered .result
     ≡ isDelivered (recordIn (recordAt (given (sized (c .before .before)) .args .config) (given (sized (c .before .before)) .args .sender) (given (sized (c .before .before)) .args .seq) (given (sized (c .before .before)) .args .records .now)))
-delivered-known c = c .is-delivered .ensures ∙ ap (λ xs. isDelivered (recordIn xs)) (c .before .before .before .get .ensures)
+delivered-known c = c .is-delivered .ensures ∙ ap (λ xs. isDelivered (recordIn xs)) (record-known (c .before .before .before))
 
 -- ---- the needs
 
@@ -67,8 +80,11 @@ records-size-requires c κs = search needs
 returns-4 : tie.Need-returns-4
 returns-4 c = rw (delivered-size _ _ _ _ (good-known (configured (c .before .before .before))) (c .before .before .before .if2 .left) (c .before .before .if3 .left) (λ q. c .if4 .taken (q ∙ sym (c .before .records-size .ensures))))
 
+offset-requires : tie.Need-offset-requires
+offset-requires c κs = search needs
+
 get-requires : tie.Need-get-requires
-get-requires c κs = (good-known (configured (ranged c .before)), (in-range _ _ _ (ranged c .before .if2 .left) (ranged c .if3 .left), long-known c))
+get-requires c κs = rw (c .offset .ensures) (offset-room _ _ _ (good-known (configured (ranged (c .before) .before))) (range-known (c .before)) (given (c .before) .args .records .now) (long-known (c .before)))
 
 well-formed-requires : tie.Need-well-formed-requires
 well-formed-requires c κs = search needs
@@ -101,6 +117,7 @@ check-delivered-spec =
     returns-3
     records-size-requires
     returns-4
+    offset-requires
     get-requires
     well-formed-requires
     returns-5

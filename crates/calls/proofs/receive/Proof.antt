@@ -5,23 +5,23 @@ use mathlib.Core.Path.{_≡_, sym, ap, ap₂, _∙_}
 use Prim.Native.Nat.{ℕ}
 use native.Mathlib.Omega.{arith}
 use lib.ListN.{length}
-use borrow.Author.Tests.{not-true, not-false}
+use Rattle.octets.specs.Octets.{part}
 use Rattle.refusal.specs.Outcome.{refused, done}
 use Rattle.config.specs.declared.Config.{Config}
-use Rattle.config.specs.Config.{recordsSize, quorum}
+use Rattle.config.specs.Config.{good, inRange, recordSize, recordsSize}
+use Rattle.config.proofs.Laws.{place-offset}
 use Rattle.bundle.specs.declared.Header.{Header}
 use Rattle.bundle.specs.Bundle.{read, readingOf, payload}
 use Rattle.bundle.proofs.Accepted.{accepted-readable}
 use Rattle.bundle.proofs.Fields.{bundle-words}
-use Rattle.protocol.specs.Slot.{update}
-use Rattle.record.specs.Record.{wellFormed, recordIn, imaged, stepOf}
+use Rattle.record.specs.Record.{bytes, received, imaged, stepOf}
 use Rattle.record.proofs.Words.{content}
 use Rattle.calls.specs.Records.{recordAt}
 use Rattle.calls.specs.Receive.{receive}
 use Rattle.calls.specs.Settled.{numberIn}
-use Rattle.calls.proofs.Room.{in-range}
+use Rattle.calls.proofs.Room.{in-range, offset-room, offset-record}
 use Rattle.calls.proofs.Taking.{read-says}
-use Rattle.calls.proofs.Refusals.{receive-no-effect, receive-unread, receive-out, receive-size, receive-malformed, receive-updated}
+use Rattle.calls.proofs.Refusals.{receive-no-effect, receive-unread, receive-out, receive-size, receive-recorded}
 use Rattle.calls.proofs.Settled.{settled-receipt, settled-records, settled-out}
 use borrow.Author.Needs.{needs}
 use Rattle.calls.proofs.receive.Statement.{statement}
@@ -30,10 +30,10 @@ use Rattle.bundle.proofs.read.Reads as read-reads
 use Rattle.calls.proofs.get.Reads as get-reads
 use Rattle.calls.proofs.reason.Reads as reason-reads
 use Rattle.calls.proofs.settle.Reads as settle-reads
+use Rattle.config.proofs.offset.Reads as offset-reads
 use Rattle.config.proofs.Config.records_size.Reads as records-size-reads
 use Rattle.octets.proofs.word.Reads as word-reads
-use Rattle.record.proofs.Record.update.Reads as update-reads
-use Rattle.record.proofs.Record.well_formed.Reads as well-formed-reads
+use Rattle.record.proofs.Record.receive.Reads as receive-reads
 
 -- ---- the places on the way, each from a later one, and what is known there
 
@@ -45,9 +45,6 @@ header c = c .before .reading .given .0 .0
 
 abbrev sized : tie.Else2 → tie.Else1
 sized c = c .before .before
-
-abbrev loaded : tie.After-well-formed → tie.Else2
-loaded c = c .before .before .before
 
 abbrev config : tie.Else2 → Config
 config c = entry (sized c .before) .args .config
@@ -65,43 +62,48 @@ accepted c = sym (c .before .before .before .read .ensures) ∙ ap readingOf (c 
 long-known : (c : tie.Else2) → length (records c) ≡ recordsSize (config c)
 long-known c = c .if2 .left ∙ c .before .records-size .ensures
 
--- what `well_formed` answers of the record
-sound-known : (c : tie.After-well-formed) → c .well-formed .result
-    ≡ wellFormed (config (loaded c)) (header (sized (loaded c) .before) .sender) (recordAt (config (loaded c)) (header (sized (loaded c) .before) .sender) (header (sized (loaded c) .before) .seq) (records (loaded c)))
-sound-known c = c .well-formed .ensures ∙ ap (wellFormed (config (loaded c)) (header (sized (loaded c) .before) .sender)) (c .before .get .ensures)
+range-known : (c : tie.Else2) → inRange (config c) (header (sized c .before) .sender) (header (sized c .before) .seq) ≡ true
+range-known c = let ok = read-says _ _ _ (accepted (sized c .before)) in in-range _ _ _ (ok .sender-known) (ok .slot)
+
+good-known : (c : tie.Else2) → good (config c) ≡ true
+good-known c = read-says _ _ _ (accepted (sized c .before)) .configured
 
 -- ---- and at the step
 
-abbrev passed : tie.After-update → tie.After-well-formed
-passed c = c .before .before .before .before .before .before
+abbrev given : tie.After-receive → tie.Else2
+given c = c .before .before .before .before .before .before .before .before
 
-abbrev out : tie.After-update → List ℕ
-out c = entry (sized (loaded (passed c)) .before) .args .out .now
+abbrev loaded : tie.After-receive → tie.After-get
+loaded c = c .before .before .before .before .before
 
-abbrev given : tie.After-update → tie.Else2
-given c = loaded (passed c)
+abbrev out : tie.After-receive → List ℕ
+out c = entry (sized (given c) .before) .args .out .now
 
-sound : (c : tie.After-update) → wellFormed (config (given c)) (header (sized (given c) .before) .sender) (recordAt (config (given c)) (header (sized (given c) .before) .sender) (header (sized (given c) .before) .seq) (records (given c))) ≡ true
-sound c = sym (sound-known (passed c)) ∙ not-false _ (c .before .before .before .before .before .if3 .left)
+-- the record that was loaded is the slot's
+record-known : (c : tie.After-receive) → bytes (loaded c .get .result) ≡ recordAt (config (given c)) (header (sized (given c) .before) .sender) (header (sized (given c) .before) .seq) (records (given c))
+record-known c =
+    loaded c .get .ensures
+    ∙ ap (λ (k : ℕ). part k recordSize (records (given c))) (loaded c .before .before .offset .ensures)
+    ∙ offset-record _ _ _ (good-known (given c)) (range-known (given c)) _
 
--- receiving is the step on the slot's record
-taken : (c : tie.After-update) → receive (config (given c)) (bundle (given c)) (records (given c)) (out c)
-    ≡ update (config (given c) .own) (quorum (config (given c))) (header (sized (given c) .before) .signers) (payload (config (given c)) (bundle (given c))) (recordIn (recordAt (config (given c)) (header (sized (given c) .before) .sender) (header (sized (given c) .before) .seq) (records (given c))))
-taken c = receive-updated _ _ _ _ _ (accepted (sized (given c) .before)) (sized (given c) .if1 .left) (long-known (given c)) (sound c)
+-- receiving is what that record makes of the bundle
+recorded : (c : tie.After-receive) → receive (config (given c)) (bundle (given c)) (records (given c)) (out c)
+    ≡ received (config (given c)) (header (sized (given c) .before) .sender) (header (sized (given c) .before) .signers) (payload (config (given c)) (bundle (given c))) (recordAt (config (given c)) (header (sized (given c) .before) .sender) (header (sized (given c) .before) .seq) (records (given c)))
+recorded c = receive-recorded _ _ _ _ _ (accepted (sized (given c) .before)) (sized (given c) .if1 .left) (long-known (given c))
 
 -- the two words are the payload's
-words-known : (c : tie.After-update) → content (c .before .before .before .word .result) (c .before .word2 .result) ≡ payload (config (given c)) (bundle (given c))
+words-known : (c : tie.After-receive) → content (c .before .before .before .word .result) (c .before .word2 .result) ≡ payload (config (given c)) (bundle (given c))
 words-known c =
     let long = accepted-readable _ _ _ (accepted (sized (given c) .before)) .0 .long in
     ap₂ content (c .before .before .before .word .ensures) (c .before .word2 .ensures)
     ∙ bundle-words (bundle (given c)) long (λ i. sized (given c) .before .before .before .before .before .before .before .shared-slice-known .given i .fits)
     ∙ sym (read-says _ _ _ (accepted (sized (given c) .before)) .content)
 
-stepped : (c : tie.After-update) → stepOf (c .update .result) ≡ imaged (receive (config (given c)) (bundle (given c)) (records (given c)) (out c))
+stepped : (c : tie.After-receive) → stepOf (c .receive .result) ≡ imaged (receive (config (given c)) (bundle (given c)) (records (given c)) (out c))
 stepped c =
-    c .update .ensures
-    ∙ ap₂ (λ p xs. imaged (update (config (given c) .own) (quorum (config (given c))) (header (sized (given c) .before) .signers) p (recordIn xs))) (words-known c) (passed c .before .get .ensures)
-    ∙ ap imaged (sym (taken c))
+    c .receive .ensures
+    ∙ ap₂ (λ p xs. imaged (received (config (given c)) (header (sized (given c) .before) .sender) (header (sized (given c) .before) .signers) p xs)) (words-known c) (record-known c)
+    ∙ ap imaged (sym (recorded c))
 
 -- ---- the needs
 
@@ -131,19 +133,11 @@ records-size-requires c κs = search needs
 returns-3 : tie.Need-returns-3
 returns-3 c = receive-no-effect _ _ _ _ _ (receive-size _ _ _ _ _ (accepted (c .before .before .before)) (c .before .before .if1 .left) (λ q. c .if2 .taken (q ∙ sym (c .before .records-size .ensures))))
 
+offset-requires : tie.Need-offset-requires
+offset-requires c κs = search needs
+
 get-requires : tie.Need-get-requires
-get-requires c κs =
-    let ok = read-says _ _ _ (accepted (sized (c .before) .before)) in
-    (ok .configured, (in-range _ _ _ (ok .sender-known) (ok .slot), long-known (c .before)))
-
-well-formed-requires : tie.Need-well-formed-requires
-well-formed-requires c κs = search needs
-
-same-length : tie.Need-same-length
-same-length c = search needs
-
-returns-4 : tie.Need-returns-4
-returns-4 c = receive-no-effect _ _ _ _ _ (receive-malformed _ _ _ _ _ (accepted (sized (loaded (c .before)) .before)) (sized (loaded (c .before)) .if1 .left) (long-known (loaded (c .before))) (sym (sound-known (c .before)) ∙ not-true _ (c .if3 .taken)))
+get-requires c κs = rw (c .before .offset .ensures) (offset-room _ _ _ (good-known (c .before .before)) (range-known (c .before .before)) (records (c .before .before)) (long-known (c .before .before)))
 
 sub-word : tie.Need-sub-word
 sub-word c = search needs
@@ -152,7 +146,7 @@ part-word-start : tie.Need-part-word-start
 part-word-start c = search needs
 
 part-word-end : tie.Need-part-word-end
-part-word-end c = let long = accepted-readable _ _ _ (accepted (sized (loaded (c .before)) .before)) .0 .long in omega arith
+part-word-end c = let long = accepted-readable _ _ _ (accepted (sized (c .before .before .before) .before)) .0 .long in omega arith
 
 word-requires : tie.Need-word-requires
 word-requires c κs = search needs
@@ -164,33 +158,36 @@ part-word-start-2 : tie.Need-part-word-start-2
 part-word-start-2 c = search needs
 
 part-word-end-2 : tie.Need-part-word-end-2
-part-word-end-2 c = let long = accepted-readable _ _ _ (accepted (sized (loaded (c .before .before .before)) .before)) .0 .long in omega arith
+part-word-end-2 c = let long = accepted-readable _ _ _ (accepted (sized (c .before .before .before .before .before) .before)) .0 .long in omega arith
 
 word-requires-2 : tie.Need-word-requires-2
 word-requires-2 c κs = search needs
 
-update-requires : tie.Need-update-requires
-update-requires c κs = search needs
+receive-requires : tie.Need-receive-requires
+receive-requires c κs = search needs
 
 settle-requires : tie.Need-settle-requires
-settle-requires c κs =
-    let ok = read-says _ _ _ (accepted (sized (given (c .before .before)) .before)) in
-    (ok .configured, (in-range _ _ _ (ok .sender-known) (ok .slot), (long-known (given (c .before .before)), sized (given (c .before .before)) .if1 .left)))
+settle-requires c κs = (
+  rw (loaded (c .before .before) .before .before .offset .ensures) (offset-room _ _ _ (good-known (given (c .before .before))) (range-known (given (c .before .before))) (records (given (c .before .before))) (long-known (given (c .before .before)))),
+  sized (given (c .before .before)) .if1 .left,
+)
+
+same-length : tie.Need-same-length
+same-length c = search needs
 
 same-length-2 : tie.Need-same-length-2
 same-length-2 c = search needs
 
-same-length-3 : tie.Need-same-length-3
-same-length-3 c = search needs
-
-returns-5 : tie.Need-returns-5
-returns-5 c =
-    let known = accepted (sized (given (c .before .before .before .before .before .before .before)) .before) in
-    let long = long-known (given (c .before .before .before .before .before .before .before)) in (
-      c .before .before .before .before .settle .ensures .0 ∙ settled-receipt _ _ _ _ _ known long (sound (c .before .before .before .before .before .before .before)) (taken (c .before .before .before .before .before .before .before)) _ (stepped (c .before .before .before .before .before .before .before)),
+returns-4 : tie.Need-returns-4
+returns-4 c =
+    let step = c .before .before .before .before .before .before .before in
+    let known = accepted (sized (given step) .before) in
+    let long = long-known (given step) in
+    let there = loaded step .before .before .offset .ensures ∙ sym (place-offset _ _ _ (good-known (given step)) (range-known (given step))) in (
+      c .before .before .before .before .settle .ensures .0 ∙ settled-receipt _ _ _ _ _ known long (recorded step) _ (stepped step),
       (
-        c .before .before .before .before .settle .ensures .1 .0 ∙ settled-records _ _ _ _ _ known long (sound (c .before .before .before .before .before .before .before)) (taken (c .before .before .before .before .before .before .before)) _ (stepped (c .before .before .before .before .before .before .before)),
-        c .before .before .before .before .settle .ensures .1 .1 ∙ settled-out _ _ _ _ _ known long (sound (c .before .before .before .before .before .before .before)) (taken (c .before .before .before .before .before .before .before)) _ (stepped (c .before .before .before .before .before .before .before)),
+        c .before .before .before .before .settle .ensures .1 .0 ∙ settled-records _ _ _ _ _ known long (recorded step) _ (stepped step) _ there,
+        c .before .before .before .before .settle .ensures .1 .1 ∙ settled-out _ _ _ _ _ known long (recorded step) _ (stepped step),
       ),
     )
 
@@ -206,10 +203,8 @@ receive-spec =
     returns-2
     records-size-requires
     returns-3
+    offset-requires
     get-requires
-    well-formed-requires
-    same-length
-    returns-4
     sub-word
     part-word-start
     part-word-end
@@ -218,8 +213,8 @@ receive-spec =
     part-word-start-2
     part-word-end-2
     word-requires-2
-    update-requires
+    receive-requires
     settle-requires
+    same-length
     same-length-2
-    same-length-3
-    returns-5)
+    returns-4)

@@ -1,11 +1,11 @@
 -- `Config::place` meets its contract, by the tests of `good` and of the range. Assumes nothing.
 use mathlib.Core.Path.{sym, _∙_}
-use native.Mathlib.Omega.{arith}
 use borrow.Author.Tests.{not-true, not-false, le-ltb, lt-ltb}
 use Rattle.config.specs.Config.{place, inRange}
 use borrow.Author.Needs.{needs}
 use Rattle.config.proofs.Config.place.Statement.{statement}
 use Rattle.config.proofs.Config.place.Tie as tie
+use Rattle.config.proofs.offset.Reads as offset-reads
 
 good-requires : tie.Need-good-requires
 good-requires c κs = search needs
@@ -22,21 +22,12 @@ returns-3 : tie.Need-returns-3
 unfolding place inRange
 returns-3 c = simp (sym (c .before .before .before .before .good2 .ensures) ∙ not-false _ (c .before .before .before .if1 .left), lt-ltb _ _ (c .before .if2 .left), le-ltb _ _ (c .if3 .taken))
 
-cast-result : tie.Need-cast-result
-cast-result c = search needs
-
-mul-result : tie.Need-mul-result
-mul-result c = search needs
-
-add-result : tie.Need-add-result
-add-result c = search needs
-
-mul-result-2 : tie.Need-mul-result-2
-mul-result-2 c = search needs
+offset-requires : tie.Need-offset-requires
+offset-requires c κs = search needs
 
 returns-4 : tie.Need-returns-4
 unfolding place inRange
-returns-4 c = simp (sym (c .before .before .before .before .good2 .ensures) ∙ not-false _ (c .before .before .before .if1 .left), lt-ltb _ _ (c .before .if2 .left), lt-ltb _ _ (c .if3 .left)) (omega arith)
+returns-4 c = simp (sym (c .before .before .before .before .before .good2 .ensures) ∙ not-false _ (c .before .before .before .before .if1 .left), lt-ltb _ _ (c .before .before .if2 .left), lt-ltb _ _ (c .before .if3 .left)) (c .offset .ensures)
 
 pub place-spec : {M : Type 1} → statement M
 place-spec =
@@ -46,8 +37,5 @@ place-spec =
     returns
     returns-2
     returns-3
-    cast-result
-    mul-result
-    add-result
-    mul-result-2
+    offset-requires
     returns-4)

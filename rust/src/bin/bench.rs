@@ -1,0 +1,349 @@
+//! How fast the exported functions are beside the reference: the same calls on the same buffers, in one run.
+//!
+//! Each row makes its calls by turns with one and with the other, many times over, and gives the median of each. Instructions are
+//! counted by callgrind, in the called functions alone, and do not depend on what else the machine does.
+
+use mbrb::random::Random;
+use mbrb::{host, reference, Config};
+use std::hint::black_box;
+use std::process::Command;
+use std::time::Instant;
+
+const DAY: u32 = 7;
+const SLOTS: u8 = 16;
+/// How many calls a row has at least. Their buffers together fit a second-level cache.
+const CALLS: usize = 1024;
+const ROUNDS: usize = 401;
+
+/// The reference behind the interface of the exported functions: five numbers and three slices, in a call that is not inlined.
+#[no_mangle]
+#[inline(never)]
+#[allow(clippy::too_many_arguments)]
+fn reference_broadcast(
+    n: u8,
+    t: u8,
+    d: u8,
+    own: u8,
+    day: u32,
+    payload: &[u8],
+    records: &mut [u8],
+    out: &mut [u8],
+) -> u32 {
+    let config = Config { n, t, d, own, day };
+    reference::broadcast_code(&config, payload, records, out)
+}
+
+#[no_mangle]
+#[inline(never)]
+#[allow(clippy::too_many_arguments)]
+fn reference_receive(
+    n: u8,
+    t: u8,
+    d: u8,
+    own: u8,
+    day: u32,
+    bundle: &[u8],
+    records: &mut [u8],
+    out: &mut [u8],
+) -> u32 {
+    let config = Config { n, t, d, own, day };
+    reference::receive_code(&config, bundle, records, out)
+}
+
+#[derive(Clone, Copy)]
+enum Side {
+    Proved,
+    Reference,
+}
+
+/// A call that is ready to be made, on the buffer of this number.
+struct Ready {
+    config: Config,
+    input: Vec<u8>,
+    buffer: usize,
+}
+
+/// Calls that all have the same code, and the buffers as they find them.
+struct Row {
+    name: &'static str,
+    n: u8,
+    code: u32,
+    calls: Vec<Ready>,
+    buffers: Vec<Vec<u8>>,
+}
+
+/// A record's state, and how many signers it has.
+#[derive(Clone, Copy)]
+enum Found {
+    Empty,
+    Held(u32),
+    Delivered(u32),
+}
+
+fn table(n: u8, own: u8) -> Config {
+    let (t, d) = ((n - 1) / 3, 0);
+    Config {
+        n,
+        t,
+        d,
+        own,
+        day: DAY,
+    }
+}
+
+fn payload(random: &mut Random) -> [u8; 16] {
+    (u128::from(random.word()) << 64 | u128::from(random.word())).to_be_bytes()
+}
+
+/// The sender, and others up to `count`; our own number only where it is asked for.
+fn signers(config: &Config, sender: u8, ours: bool, count: u32) -> u64 {
+    let mut set = 1 << sender | u64::from(ours) << config.own;
+    for node in (0..config.n).filter(|&node| node != config.own) {
+        if set.count_ones() < count {
+            set |= 1 << node;
+        }
+    }
+    set
+}
+
+fn bundle(sender: u8, seq: u8, signers: u64, payload: &[u8; 16]) -> Vec<u8> {
+    let head = [&DAY.to_be_bytes()[..], &[sender, seq, 0, 0]].concat();
+    [&head[..], &signers.to_be_bytes(), payload].concat()
+}
+
+fn record(config: &Config, sender: u8, found: Found, payload: &[u8; 16]) -> Vec<u8> {
+    let (state, count) = match found {
+        Found::Empty => return vec![0; 32],
+        Found::Held(count) => (1, count),
+        Found::Delivered(count) => (2, count),
+    };
+    let set = signers(config, sender, true, count);
+    let head = [state, 0, 0, 0, 0, 0, 0, 0];
+    [&head[..], &set.to_be_bytes(), payload].concat()
+}
+
+/// Takings, one for each slot of the other senders: what they find, how many signers they bring, and what they answer.
+fn takings(name: &'static str, n: u8, found: Found, brought: u32, code: u32) -> Row {
+    let mut random = Random::new(1);
+    let config = table(n, 1);
+    let (mut calls, mut buffers) = (Vec::new(), Vec::new());
+    while calls.len() < CALLS {
+        let mut records = Vec::new();
+        for (sender, seq) in (0..n).flat_map(|sender| (0..SLOTS).map(move |seq| (sender, seq))) {
+            let payload = payload(&mut random);
+            if sender == config.own {
+                records.extend([0; 32]);
+                continue;
+            }
+            records.extend(record(&config, sender, found, &payload));
+            let set = signers(&config, sender, false, brought);
+            calls.push(Ready {
+                config,
+                input: bundle(sender, seq, set, &payload),
+                buffer: buffers.len(),
+            });
+        }
+        buffers.push(records);
+    }
+    Row {
+        name,
+        n,
+        code,
+        calls,
+        buffers,
+    }
+}
+
+/// Announcements, one for each node, with so many numbers used already.
+fn announcements(name: &'static str, n: u8, used: u8) -> Row {
+    let mut random = Random::new(2);
+    let (mut calls, mut buffers) = (Vec::new(), Vec::new());
+    while calls.len() < CALLS {
+        let mut records = Vec::new();
+        for own in 0..n {
+            let config = table(n, own);
+            for seq in 0..SLOTS {
+                let found = if seq < used {
+                    Found::Held(1)
+                } else {
+                    Found::Empty
+                };
+                records.extend(record(&config, own, found, &payload(&mut random)));
+            }
+            calls.push(Ready {
+                config,
+                input: payload(&mut random).to_vec(),
+                buffer: buffers.len(),
+            });
+        }
+        buffers.push(records);
+    }
+    let code = 200 + u32::from(used);
+    Row {
+        name,
+        n,
+        code,
+        calls,
+        buffers,
+    }
+}
+
+fn rows() -> Vec<Row> {
+    let rows_of = |n| {
+        let quorum = table(n, 1).quorum();
+        [
+            takings("taking: kept", n, Found::Held(2), 1, 100),
+            takings("taking: signed", n, Found::Empty, 1, 101),
+            takings(
+                "taking: delivered",
+                n,
+                Found::Held(quorum - 1),
+                quorum - 1,
+                102,
+            ),
+            takings("taking: 22", n, Found::Delivered(quorum), quorum, 22),
+            announcements("announcing: fresh day", n, 0),
+            announcements("announcing: number 15", n, 15),
+        ]
+    };
+    [4, 64].into_iter().flat_map(rows_of).collect()
+}
+
+impl Row {
+    fn announces(&self) -> bool {
+        self.code >= 200
+    }
+
+    /// Every call of the row once.
+    fn run(
+        &self,
+        side: Side,
+        buffers: &mut [Vec<u8>],
+        out: &mut [u8],
+        mut answered: impl FnMut(u32),
+    ) {
+        // One loop for each function, so that each is called directly.
+        macro_rules! each {
+            ($call:expr) => {
+                for Ready {
+                    config,
+                    input,
+                    buffer,
+                } in &self.calls
+                {
+                    answered($call(config, input, &mut buffers[*buffer], out));
+                }
+            };
+        }
+        macro_rules! by_numbers {
+            ($call:expr) => {
+                |c: &Config, input: &[u8], records: &mut [u8], out: &mut [u8]| {
+                    $call(c.n, c.t, c.d, c.own, c.day, input, records, out)
+                }
+            };
+        }
+        match (side, self.announces()) {
+            (Side::Proved, true) => each!(host::broadcast),
+            (Side::Proved, false) => each!(host::receive),
+            (Side::Reference, true) => each!(by_numbers!(reference_broadcast)),
+            (Side::Reference, false) => each!(by_numbers!(reference_receive)),
+        }
+    }
+
+    /// The codes are what the row says.
+    fn check(&self, side: Side) {
+        let mut buffers = self.buffers.clone();
+        self.run(side, &mut buffers, &mut [0; 32], |code| {
+            assert_eq!(code, self.code, "{}, n = {}", self.name, self.n);
+        });
+    }
+
+    /// Nanoseconds of a call. The buffers are made anew first, outside the measured time.
+    fn round(&self, side: Side, buffers: &mut [Vec<u8>]) -> f64 {
+        for (buffer, made) in buffers.iter_mut().zip(&self.buffers) {
+            buffer.copy_from_slice(made);
+        }
+        let mut out = [0; 32];
+        let start = Instant::now();
+        self.run(side, buffers, &mut out, |code| {
+            black_box(code);
+        });
+        start.elapsed().as_nanos() as f64 / self.calls.len() as f64
+    }
+
+    /// The median of each side, by turns.
+    fn measure(&self) -> (f64, f64) {
+        let mut buffers = self.buffers.clone();
+        let (mut proved, mut other) = (Vec::new(), Vec::new());
+        for _ in 0..ROUNDS {
+            proved.push(self.round(Side::Proved, &mut buffers));
+            other.push(self.round(Side::Reference, &mut buffers));
+        }
+        (median(proved), median(other))
+    }
+
+    /// Instructions of a call, counted in a run of this program that makes the row's calls once.
+    fn instructions(&self, number: usize, side: Side) -> Option<f64> {
+        let (who, function) = match (side, self.announces()) {
+            (Side::Proved, true) => ("proved", "mbrb_broadcast"),
+            (Side::Proved, false) => ("proved", "mbrb_receive"),
+            (Side::Reference, true) => ("reference", "reference_broadcast"),
+            (Side::Reference, false) => ("reference", "reference_receive"),
+        };
+        let output = Command::new("valgrind")
+            .args(["--tool=callgrind", "--callgrind-out-file=/dev/null"])
+            .arg(format!("--toggle-collect={function}"))
+            .arg(std::env::current_exe().ok()?)
+            .args(["count", &number.to_string(), who])
+            .output()
+            .ok()?;
+        let text = String::from_utf8_lossy(&output.stderr);
+        let line = text.lines().find(|line| line.contains("Collected :"))?;
+        let total: f64 = line.split_whitespace().last()?.parse().ok()?;
+        Some(total / self.calls.len() as f64)
+    }
+}
+
+fn median(mut times: Vec<f64>) -> f64 {
+    times.sort_by(f64::total_cmp);
+    times[times.len() / 2]
+}
+
+fn report(rows: &[Row]) {
+    println!("                            nanoseconds              instructions");
+    println!("n   call                    proved reference ratio   proved reference ratio");
+    for (number, row) in rows.iter().enumerate() {
+        row.check(Side::Proved);
+        row.check(Side::Reference);
+        let (proved, other) = row.measure();
+        let ratio = proved / other;
+        print!(
+            "{:<3} {:<22} {proved:>7.1} {other:>9.1} {ratio:>5.2}",
+            row.n, row.name
+        );
+        let counts = (
+            row.instructions(number, Side::Proved),
+            row.instructions(number, Side::Reference),
+        );
+        match counts {
+            (Some(a), Some(b)) => println!(" {a:>8.0} {b:>9.0} {:>5.2}", a / b),
+            _ => println!("   not counted: no valgrind"),
+        }
+    }
+}
+
+fn main() {
+    let arguments: Vec<String> = std::env::args().skip(1).collect();
+    let rows = rows();
+    match arguments.as_slice() {
+        [] => report(&rows),
+        [count, row, who] if count == "count" => {
+            let side = match who.as_str() {
+                "proved" => Side::Proved,
+                _ => Side::Reference,
+            };
+            rows[row.parse::<usize>().expect("a row's number")].check(side);
+        }
+        _ => eprintln!("bench takes no argument"),
+    }
+}

@@ -1,0 +1,490 @@
+//! Broadcast and receive, written from document 01 alone, to be compared with the proved functions.
+//!
+//! Every check comes before the first store, so a refusal changes no byte.
+
+use crate::Config;
+
+/// Why a call changes nothing, by document 01's number.
+#[derive(Clone, Copy, Debug, PartialEq, Eq)]
+#[repr(u32)]
+pub enum Refusal {
+    ConfigNotGood = 1,
+    BundleLength = 2,
+    ReservedNotZero = 3,
+    OtherDay = 4,
+    SenderOutOfRange = 5,
+    SeqOutOfRange = 6,
+    SignerOutOfRange = 7,
+    SenderNotSigner = 8,
+    PayloadLength = 9,
+    OutLength = 10,
+    RecordsLength = 20,
+    RecordMalformed = 21,
+    AlreadyDelivered = 22,
+    OwnSignatureNotHeld = 23,
+    OtherPayloadWithoutQuorum = 24,
+    NoEmptyRecord = 25,
+}
+
+impl Refusal {
+    pub fn number(self) -> u32 {
+        self as u32
+    }
+}
+
+/// The answer of `receive`, with the count of signers in the record afterwards.
+#[derive(Clone, Copy, Debug, PartialEq, Eq)]
+pub enum Receipt {
+    Kept(u32),
+    Signed(u32),
+    Delivered(u32),
+}
+
+impl Config {
+    #[inline]
+    pub fn good(&self) -> bool {
+        let [n, t, d] = [self.n, self.t, self.d].map(u32::from);
+        (1..=64).contains(&n) && n > 3 * t + 2 * d && self.own < self.n
+    }
+
+    /// 0 if the config is not good.
+    #[inline]
+    pub fn quorum(&self) -> u32 {
+        if !self.good() {
+            return 0;
+        }
+        (u32::from(self.n) + u32::from(self.t)) / 2 + 1
+    }
+
+    /// The bits of all nodes; 0 if the config is not good.
+    #[inline]
+    pub fn mask(&self) -> u64 {
+        if !self.good() {
+            return 0;
+        }
+        // To the right, by 0 to 63: to the left, n = 64 would be one too far.
+        u64::MAX >> (64 - self.n)
+    }
+
+    /// Where the slot's record starts; 0 if the config is not good or the slot out of range.
+    #[inline]
+    pub fn place(&self, sender: u8, seq: u8) -> usize {
+        if !self.good() || sender >= self.n || seq > 15 {
+            return 0;
+        }
+        32 * (16 * usize::from(sender) + usize::from(seq))
+    }
+
+    fn records_length(&self) -> usize {
+        512 * usize::from(self.n)
+    }
+}
+
+fn require(holds: bool, refusal: Refusal) -> Result<(), Refusal> {
+    holds.then_some(()).ok_or(refusal)
+}
+
+/// The signer bit of a node below 64.
+fn bit(node: u8) -> u64 {
+    1 << node
+}
+
+/// Bundle and record are cut alike: a head of 8 bytes, the signers, the payload.
+fn split(bytes: &[u8; 32]) -> ([u8; 8], u64, [u8; 16]) {
+    let (words, _) = bytes.as_chunks::<8>();
+    let (halves, _) = bytes.as_chunks::<16>();
+    (words[0], u64::from_be_bytes(words[1]), halves[1])
+}
+
+fn join(head: [u8; 8], signers: u64, payload: [u8; 16], bytes: &mut [u8; 32]) {
+    bytes[..8].copy_from_slice(&head);
+    bytes[8..16].copy_from_slice(&signers.to_be_bytes());
+    bytes[16..].copy_from_slice(&payload);
+}
+
+/// A readable bundle; its day is the config's.
+struct Bundle {
+    sender: u8,
+    seq: u8,
+    signers: u64,
+    payload: [u8; 16],
+}
+
+impl Bundle {
+    fn read(config: &Config, bytes: &[u8]) -> Result<Bundle, Refusal> {
+        require(config.good(), Refusal::ConfigNotGood)?;
+        let bytes = bytes.try_into().map_err(|_| Refusal::BundleLength)?;
+        let ([d0, d1, d2, d3, sender, seq, reserved @ ..], signers, payload) = split(bytes);
+        let day = u32::from_be_bytes([d0, d1, d2, d3]);
+        require(reserved == [0, 0], Refusal::ReservedNotZero)?;
+        require(day == config.day, Refusal::OtherDay)?;
+        require(sender < config.n, Refusal::SenderOutOfRange)?;
+        require(seq <= 15, Refusal::SeqOutOfRange)?;
+        require(signers & !config.mask() == 0, Refusal::SignerOutOfRange)?;
+        require(signers & bit(sender) != 0, Refusal::SenderNotSigner)?;
+        Ok(Bundle {
+            sender,
+            seq,
+            signers,
+            payload,
+        })
+    }
+
+    fn write(&self, day: u32, out: &mut [u8; 32]) {
+        let [d0, d1, d2, d3] = day.to_be_bytes();
+        let head = [d0, d1, d2, d3, self.sender, self.seq, 0, 0];
+        join(head, self.signers, self.payload, out);
+    }
+}
+
+/// The state byte with the seven zero bytes behind it, as one word.
+#[derive(Clone, Copy, PartialEq, Eq)]
+#[repr(u64)]
+enum State {
+    Empty = 0,
+    Held = 1 << 56,
+    Delivered = 2 << 56,
+}
+
+impl State {
+    fn read(head: [u8; 8]) -> Option<State> {
+        let word = u64::from_be_bytes(head);
+        [State::Empty, State::Held, State::Delivered]
+            .into_iter()
+            .find(|&state| state as u64 == word)
+    }
+}
+
+/// A well-formed record; document 01 calls it sound.
+struct Record {
+    state: State,
+    signers: u64,
+    payload: [u8; 16],
+}
+
+impl Record {
+    // Inlined, it shares the caller's check of the config instead of repeating it.
+    #[inline(always)]
+    fn read(config: &Config, sender: u8, bytes: &[u8; 32]) -> Result<Record, Refusal> {
+        let (head, signers, payload) = split(bytes);
+        let state = State::read(head).ok_or(Refusal::RecordMalformed)?;
+        let signed_by = |node| signers & bit(node) != 0;
+        let well_formed = match state {
+            State::Empty => signers == 0 && payload == [0; 16],
+            State::Held => signed_by(sender) && signed_by(config.own),
+            // Our bit is missing where a quorum for another payload has replaced ours.
+            State::Delivered => signed_by(sender) && signers.count_ones() >= config.quorum(),
+        };
+        let in_range = signers & !config.mask() == 0;
+        require(in_range && well_formed, Refusal::RecordMalformed)?;
+        Ok(Record {
+            state,
+            signers,
+            payload,
+        })
+    }
+
+    fn store(&self, bytes: &mut [u8; 32]) {
+        let head = (self.state as u64).to_be_bytes();
+        join(head, self.signers, self.payload, bytes);
+    }
+
+    /// The signers of the bundle's payload once the bundle is received on this record.
+    fn signers_with(&self, config: &Config, bundle: &Bundle) -> Result<u64, Refusal> {
+        let own = bit(config.own);
+        match self.state {
+            State::Delivered => Err(Refusal::AlreadyDelivered),
+            State::Held if self.payload == bundle.payload => Ok(self.signers | bundle.signers),
+            _ if bundle.signers & own != 0 => Err(Refusal::OwnSignatureNotHeld),
+            State::Empty => Ok(bundle.signers | own),
+            State::Held if bundle.signers.count_ones() < config.quorum() => {
+                Err(Refusal::OtherPayloadWithoutQuorum)
+            }
+            // Who signed the payload held so far, we included, has not signed this one.
+            State::Held => Ok(bundle.signers),
+        }
+    }
+}
+
+/// The first empty of our own records and its number; `seq` is the number of the first given.
+fn first_empty<'a>(
+    config: &Config,
+    own_records: &'a mut [[u8; 32]],
+    seq: u8,
+) -> Result<(u8, &'a mut [u8; 32]), Refusal> {
+    let (first, rest) = own_records
+        .split_first_mut()
+        .ok_or(Refusal::NoEmptyRecord)?;
+    match Record::read(config, config.own, first)?.state {
+        State::Empty => Ok((seq, first)),
+        State::Held | State::Delivered => first_empty(config, rest, seq + 1),
+    }
+}
+
+/// Signs the payload in our lowest empty slot, puts its bundle into `out` and gives the slot's
+/// number. Document 01: announcing.
+pub fn broadcast(
+    config: &Config,
+    payload: &[u8],
+    records: &mut [u8],
+    out: &mut [u8],
+) -> Result<u8, Refusal> {
+    require(config.good(), Refusal::ConfigNotGood)?;
+    let payload = payload.try_into().map_err(|_| Refusal::PayloadLength)?;
+    let out = out.try_into().map_err(|_| Refusal::OutLength)?;
+    let complete = records.len() == config.records_length();
+    require(complete, Refusal::RecordsLength)?;
+    let (own_records, _) = records[config.place(config.own, 0)..][..512].as_chunks_mut();
+    let (seq, bytes) = first_empty(config, own_records, 0)?;
+    let (sender, state, signers) = (config.own, State::Held, bit(config.own));
+    Record {
+        state,
+        signers,
+        payload,
+    }
+    .store(bytes);
+    Bundle {
+        sender,
+        seq,
+        signers,
+        payload,
+    }
+    .write(config.day, out);
+    Ok(seq)
+}
+
+/// Takes the bundle into its slot's record. Signed or delivered, the bundle to send is in `out`;
+/// at kept `out` stays as it is. Document 01: taking.
+pub fn receive(
+    config: &Config,
+    bundle: &[u8],
+    records: &mut [u8],
+    out: &mut [u8],
+) -> Result<Receipt, Refusal> {
+    let bundle = Bundle::read(config, bundle)?;
+    let out = out.try_into().map_err(|_| Refusal::OutLength)?;
+    let complete = records.len() == config.records_length();
+    require(complete, Refusal::RecordsLength)?;
+    let (from_slot, _) = records[config.place(bundle.sender, bundle.seq)..].as_chunks_mut();
+    let before = Record::read(config, bundle.sender, &from_slot[0])?;
+    let signers = before.signers_with(config, &bundle)?;
+    let count = signers.count_ones();
+    let (state, receipt) = if count >= config.quorum() {
+        (State::Delivered, Receipt::Delivered(count))
+    } else if before.state == State::Empty {
+        (State::Held, Receipt::Signed(count))
+    } else {
+        (State::Held, Receipt::Kept(count))
+    };
+    let payload = bundle.payload;
+    Record {
+        state,
+        signers,
+        payload,
+    }
+    .store(&mut from_slot[0]);
+    if !matches!(receipt, Receipt::Kept(_)) {
+        Bundle { signers, ..bundle }.write(config.day, out);
+    }
+    Ok(receipt)
+}
+
+/// `broadcast` for a C host: the refusal's number, or 200 plus the slot's number.
+pub fn broadcast_code(config: &Config, payload: &[u8], records: &mut [u8], out: &mut [u8]) -> u32 {
+    match broadcast(config, payload, records, out) {
+        Ok(seq) => 200 + u32::from(seq),
+        Err(refusal) => refusal.number(),
+    }
+}
+
+/// `receive` for a C host: the refusal's number, or 100 kept, 101 signed, 102 delivered.
+pub fn receive_code(config: &Config, bundle: &[u8], records: &mut [u8], out: &mut [u8]) -> u32 {
+    match receive(config, bundle, records, out) {
+        Ok(Receipt::Kept(_)) => 100,
+        Ok(Receipt::Signed(_)) => 101,
+        Ok(Receipt::Delivered(_)) => 102,
+        Err(refusal) => refusal.number(),
+    }
+}
+
+#[cfg(test)]
+mod tests {
+    use super::*;
+
+    const PAYLOAD: [u8; 16] = [0, 1, 2, 3, 4, 5, 6, 7, 8, 9, 10, 11, 12, 13, 14, 15];
+    const OTHER: [u8; 16] = [0; 16];
+    const UNSENT: [u8; 32] = [0xee; 32];
+
+    fn config(n: u8, t: u8, d: u8, own: u8) -> Config {
+        let day = 7;
+        Config { n, t, d, own, day }
+    }
+
+    fn bytes(head: [u8; 8], signers: u64, payload: [u8; 16]) -> [u8; 32] {
+        let parts = [&head[..], &signers.to_be_bytes(), &payload].concat();
+        parts.try_into().unwrap()
+    }
+
+    /// A bundle of day 7, sender 0, number 0.
+    fn bundle(signers: u64, payload: [u8; 16]) -> [u8; 32] {
+        bytes([0, 0, 0, 7, 0, 0, 0, 0], signers, payload)
+    }
+
+    fn record(state: u8, signers: u64, payload: [u8; 16]) -> [u8; 32] {
+        bytes([state, 0, 0, 0, 0, 0, 0, 0], signers, payload)
+    }
+
+    /// Receives at node 1 of 4, 1, 0, whose record of the slot is `before`; gives the code, the
+    /// record afterwards and the outgoing bytes.
+    fn receive_on(before: [u8; 32], bundle: [u8; 32]) -> (u32, [u8; 32], [u8; 32]) {
+        let (mut records, mut out) = ([[0; 32]; 64], UNSENT);
+        records[0] = before;
+        let records_bytes = records.as_flattened_mut();
+        let code = receive_code(&config(4, 1, 0, 1), &bundle, records_bytes, &mut out);
+        assert_eq!(records[1..], [[0; 32]; 63]);
+        (code, records[0], out)
+    }
+
+    fn assert_refused(number: u32, before: [u8; 32], bundle: [u8; 32]) {
+        assert_eq!(receive_on(before, bundle), (number, before, UNSENT));
+    }
+
+    #[test]
+    fn quorums_of_the_table() {
+        let good = [(1, 0, 0, 1), (2, 0, 0, 2), (4, 1, 0, 3), (6, 1, 1, 4)];
+        let large = [(64, 21, 0, 43), (64, 0, 31, 33)];
+        let bad = [(0, 0, 0, 0), (5, 1, 1, 0), (64, 0, 32, 0), (65, 0, 0, 0)];
+        for (n, t, d, quorum) in good.into_iter().chain(large).chain(bad) {
+            assert_eq!(config(n, t, d, 0).quorum(), quorum);
+            assert_eq!(config(n, t, d, 0).good(), quorum > 0);
+        }
+        assert!(!config(64, 255, 255, 0).good() && !config(4, 1, 0, 4).good());
+    }
+
+    #[test]
+    fn mask_and_place_at_their_edges() {
+        for (n, mask) in [(0, 0), (1, 1), (4, 15), (64, u64::MAX), (65, 0)] {
+            assert_eq!(config(n, 0, 0, 0).mask(), mask);
+        }
+        for (sender, seq, place) in [(0, 1, 32), (3, 15, 2016), (4, 0, 0), (3, 16, 0)] {
+            assert_eq!(config(4, 1, 0, 0).place(sender, seq), place);
+        }
+        assert_eq!(config(4, 1, 0, 4).place(3, 15), 0);
+    }
+
+    #[test]
+    fn the_play() {
+        let (mut records, mut out) = ([[0; 2048]; 4], UNSENT);
+        let announced = broadcast(&config(4, 1, 0, 0), &PAYLOAD, &mut records[0], &mut out);
+        assert_eq!((announced, out), (Ok(0), bundle(1, PAYLOAD)));
+        let steps = [
+            (1, 1, Ok(Receipt::Signed(2)), bundle(3, PAYLOAD)),
+            (1, 1, Ok(Receipt::Kept(2)), UNSENT),
+            (2, 3, Ok(Receipt::Delivered(3)), bundle(7, PAYLOAD)),
+            (2, 7, Err(Refusal::AlreadyDelivered), UNSENT),
+            (3, 2, Err(Refusal::SenderNotSigner), UNSENT),
+            (0, 7, Ok(Receipt::Delivered(3)), bundle(7, PAYLOAD)),
+        ];
+        for (node, signers, answer, sent) in steps {
+            let (config, mut out) = (config(4, 1, 0, node), UNSENT);
+            let records = &mut records[usize::from(node)];
+            let received = receive(&config, &bundle(signers, PAYLOAD), records, &mut out);
+            assert_eq!((received, out), (answer, sent));
+        }
+        let (held, delivered) = (record(1, 3, PAYLOAD), record(2, 7, PAYLOAD));
+        for (records, record) in records.iter().zip([delivered, held, delivered, [0; 32]]) {
+            assert!(records.starts_with(&record));
+        }
+    }
+
+    #[test]
+    fn a_quorum_replaces_another_payload_and_leaves_our_bit_out() {
+        let (delivered, sent) = (record(2, 13, OTHER), bundle(13, OTHER));
+        let received = receive_on(record(1, 3, PAYLOAD), sent);
+        assert_eq!(received, (102, delivered, sent));
+        assert_refused(22, delivered, bundle(15, OTHER));
+    }
+
+    #[test]
+    fn a_held_quorum_is_well_formed_and_delivered_next() {
+        let received = receive_on(record(1, 15, PAYLOAD), bundle(1, PAYLOAD));
+        assert_eq!(received, (102, record(2, 15, PAYLOAD), bundle(15, PAYLOAD)));
+    }
+
+    #[test]
+    fn wrong_configs_and_lengths_are_refused_in_order() {
+        let (good, bad) = (config(4, 1, 0, 1), config(5, 1, 1, 1));
+        // Defects add up from row to row: the code is the first of them.
+        let rows = [
+            (good, 32, 16, 32, 2047, 20, 20),
+            (good, 32, 16, 31, 2047, 10, 10),
+            (good, 31, 15, 31, 2047, 2, 9),
+            (bad, 31, 15, 31, 2047, 1, 1),
+        ];
+        for (config, bundle_length, payload_length, out_length, length, received, sent) in rows {
+            let (mut records, mut out) = ([0; 2048], UNSENT);
+            let (buffer, out_buffer) = (&mut records[..length], &mut out[..out_length]);
+            let bundle = &bundle(1, PAYLOAD)[..bundle_length];
+            assert_eq!(receive_code(&config, bundle, buffer, out_buffer), received);
+            let payload = &PAYLOAD[..payload_length];
+            assert_eq!(broadcast_code(&config, payload, buffer, out_buffer), sent);
+            assert_eq!((records, out), ([0; 2048], UNSENT));
+        }
+    }
+
+    #[test]
+    fn unreadable_bundles_are_refused_in_order() {
+        // Defects add up from the last reason to the first: byte, value, reason.
+        let defects = [
+            (15, 2, 8),
+            (8, 1, 7),
+            (5, 16, 6),
+            (4, 4, 5),
+            (0, 1, 4),
+            (7, 1, 3),
+        ];
+        let mut bytes = bundle(1, PAYLOAD);
+        for (at, value, number) in defects {
+            bytes[at] = value;
+            assert_refused(number, [0; 32], bytes);
+        }
+    }
+
+    #[test]
+    fn malformed_records_are_refused() {
+        let mut reserved = record(1, 3, PAYLOAD);
+        reserved[7] = 1;
+        let states = [reserved, record(3, 3, PAYLOAD)];
+        let empty = [record(0, 3, OTHER), record(0, 0, PAYLOAD)];
+        // The sender's bit is 1, ours 2, and 16 stands for no node.
+        let held = [1, 2, 19].map(|signers| record(1, signers, PAYLOAD));
+        let delivered = [3, 14, 23].map(|signers| record(2, signers, PAYLOAD));
+        for before in states.into_iter().chain(empty).chain(held).chain(delivered) {
+            assert_refused(21, before, bundle(3, PAYLOAD));
+        }
+    }
+
+    #[test]
+    fn bundles_at_odds_with_our_record_are_refused() {
+        assert_refused(23, [0; 32], bundle(3, OTHER));
+        assert_refused(23, record(1, 3, PAYLOAD), bundle(3, OTHER));
+        assert_refused(24, record(1, 3, PAYLOAD), bundle(5, OTHER));
+    }
+
+    #[test]
+    fn broadcast_looks_no_further_than_the_first_empty_record() {
+        let (config, mut records, mut out) = (config(4, 1, 0, 2), [0; 2048], UNSENT);
+        let last = config.place(2, 15);
+        records[last] = 3;
+        for seq in 0..15 {
+            let code = broadcast_code(&config, &OTHER, &mut records, &mut out);
+            assert_eq!((code, out[5]), (200 + seq, seq as u8));
+        }
+        for (number, record) in [(21, record(0, 0, PAYLOAD)), (25, record(2, 13, PAYLOAD))] {
+            records[last..last + 32].copy_from_slice(&record);
+            let (before, mut out) = (records, UNSENT);
+            let code = broadcast_code(&config, &PAYLOAD, &mut records, &mut out);
+            assert_eq!((code, records, out), (number, before, UNSENT));
+        }
+    }
+}

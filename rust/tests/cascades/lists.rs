@@ -1,0 +1,132 @@
+//! Lists of calls, each from its own seed: a system, what its correct nodes announce, what the faulty ones do, and what is lost.
+
+use crate::adversary::Adversary;
+use crate::chance::{mostly, mostly_the_most, pick, pick_some};
+use crate::network::Network;
+use crate::run::Run;
+use crate::trace::{Payload, Step, System};
+use mbrb::random::Random;
+
+/// How a list is made, apart from chance.
+#[derive(Clone, Copy)]
+pub struct Rules {
+    /// how much less than the system's t the nodes are told: the quorum is less by half of that
+    pub t_less: u8,
+    /// how many correct nodes more than d a sending may miss
+    pub missed_more: u32,
+    /// the tables (n, t, d) to choose from; any good one if there are none
+    pub tables: &'static [(u8, u8, u8)],
+    /// Every list goes on until each sending has reached enough nodes.
+    pub always_drained: bool,
+}
+
+/// The rules of demand 3.
+pub const LAWFUL: Rules = Rules {
+    t_less: 0,
+    missed_more: 0,
+    tables: &[],
+    always_drained: false,
+};
+
+pub fn list(rules: Rules, seed: u64) -> (System, Vec<Step>) {
+    let random = &mut Random::new(seed);
+    let system = system(rules, random);
+    (system, play(system, rules, random))
+}
+
+fn system(rules: Rules, random: &mut Random) -> System {
+    let (n, t, d) = match rules.tables {
+        [] => any_table(random),
+        tables => tables[random.below(tables.len())],
+    };
+    let day = [0, 7, u32::MAX, random.word() as u32][random.below(4)];
+    let mut system = System {
+        n,
+        t,
+        d,
+        day,
+        faulty: 0,
+    };
+    let faulty = match rules.t_less {
+        0 => mostly_the_most(usize::from(t), random) as u32,
+        _ => u32::from(t),
+    };
+    system.faulty = pick_some(system.correct(), faulty, random);
+    system
+}
+
+/// Good tables, mostly small, and mostly such that one fault or one loss more would make them bad.
+fn any_table(random: &mut Random) -> (u8, u8, u8) {
+    let n = match random.below(400) {
+        0..=1 => 11 + random.below(54),
+        2..=60 => 1 + random.below(10),
+        _ => 4 + random.below(4),
+    };
+    let t = mostly_the_most((n - 1) / 3, random);
+    let d = mostly_the_most((n - 1 - 3 * t) / 2, random);
+    (n as u8, t as u8, d as u8)
+}
+
+fn play(system: System, rules: Rules, random: &mut Random) -> Vec<Step> {
+    let payloads = payloads(random);
+    let mut run = Run::new(system, system.t - rules.t_less, random);
+    let quorum = run.config(0).quorum();
+    let adversary = Adversary::new(&system, quorum, payloads, random);
+    let missed = u32::from(system.d) + rules.missed_more;
+    let mut network = match rules.always_drained || random.once_in(2) {
+        true => Network::draining(&system, missed, random),
+        false => Network::losing_any(random),
+    };
+    let mut announcements = random.below(3);
+    for _ in 0..4 + random.below(8 * usize::from(system.n)) {
+        match random.below(8) {
+            0 if announcements > 0 => {
+                announcements -= 1;
+                announce(&mut run, &payloads, random);
+            }
+            1..=2 => _ = network.carry(&mut run, random),
+            _ => adversary.act(&mut run, random),
+        }
+    }
+    if system.n <= 10 && random.once_in(400) {
+        use_up_a_day(&mut run, &payloads, random);
+    }
+    drain(&mut run, &mut network, &adversary, random);
+    run.trace
+}
+
+/// Hands on what was sent, and what is sent upon that, until each sending has reached enough nodes. The faulty nodes go on for a while.
+fn drain(run: &mut Run, network: &mut Network, adversary: &Adversary, random: &mut Random) {
+    let mut acts = random.below(10);
+    while !network.ends_anywhere() && network.carry(run, random) {
+        if acts > 0 && random.once_in(6) {
+            acts -= 1;
+            adversary.act(run, random);
+        }
+    }
+}
+
+/// Few and alike, so that two nodes may well have the same: one is all zero, one a bit away from another.
+fn payloads(random: &mut Random) -> [Payload; 3] {
+    let any = u128::from(random.word()) << 64 | u128::from(random.word());
+    [
+        [0; 16],
+        any.to_be_bytes(),
+        (any ^ 1 << random.below(128)).to_be_bytes(),
+    ]
+}
+
+fn announce(run: &mut Run, payloads: &[Payload; 3], random: &mut Random) {
+    let node = pick(run.system.correct(), random);
+    let mut payload = payloads[random.below(3)].to_vec();
+    payload.resize(mostly(16, random), 0);
+    run.broadcast(node, &payload, mostly(32, random));
+}
+
+/// A node announces until it has no slot left, and once more.
+fn use_up_a_day(run: &mut Run, payloads: &[Payload; 3], random: &mut Random) {
+    let node = pick(run.system.correct(), random);
+    for _ in 0..17 {
+        run.broadcast(node, &payloads[random.below(3)], 32);
+    }
+}

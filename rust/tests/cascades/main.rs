@@ -1,0 +1,150 @@
+//! Demand 3 as a test of the statement itself: whole systems, with faulty nodes and losses, through the exported functions.
+//!
+//! A list of calls comes from a seed; its conclusions are checked from the list alone. The same checks see violations where the quorum is
+//! one too small, and where one correct node more than d misses each sending.
+//!
+//! MBRB_LISTS sets how many lists there are, MBRB_SEED the first one's seed.
+
+mod adversary;
+mod chance;
+mod demand3;
+mod lists;
+mod network;
+mod run;
+mod tally;
+mod trace;
+
+use demand3::{Conclusion, History, Violation};
+use lists::{list, Rules, LAWFUL};
+use mbrb::setting;
+use std::time::Instant;
+use tally::Tally;
+use trace::{Step, System, KEPT};
+
+fn first_seed() -> u64 {
+    setting("MBRB_SEED", 1)
+}
+
+/// Every conclusion of demand 3 that the list breaks.
+fn violations(system: &System, history: &History) -> Vec<Violation> {
+    let mut found = demand3::broken_safety(system, history);
+    if demand3::reached(history, system.nearly_all()) {
+        found.extend(demand3::broken_delivery(history, system.nearly_all()));
+    }
+    found
+}
+
+/// A list with its history, after the check that the claim speaks of it.
+fn lawful_list(rules: Rules, seed: u64) -> (System, Vec<Step>, History) {
+    let (system, trace) = list(rules, seed);
+    if let Err(reason) = demand3::lawful(&system, &trace) {
+        panic!("seed {seed}: {reason}");
+    }
+    let history = History::of(&system, &trace);
+    (system, trace, history)
+}
+
+/// The violation with the calls in its slot that changed something.
+fn shown(system: &System, trace: &[Step], violation: &Violation) -> Vec<String> {
+    let concerned = |step: &Step| {
+        let announced = step.announces(system.day).map(|(slot, _)| slot);
+        let received = step.accepts().map(|fields| fields.slot);
+        step.code >= KEPT && announced.or(received) == Some(violation.slot)
+    };
+    let calls = trace.iter().filter(|step| concerned(step));
+    let title = format!("{:?} is broken in {system}:", violation.conclusion);
+    std::iter::once(title)
+        .chain(calls.map(|step| format!("  {step}")))
+        .collect()
+}
+
+#[test]
+fn no_violation_in_100_000_lists() {
+    let started = Instant::now();
+    let lists = setting("MBRB_LISTS", 100_000);
+    let mut tally = Tally::default();
+    for seed in (first_seed()..).take(lists as usize) {
+        let (system, trace, history) = lawful_list(LAWFUL, seed);
+        if let Some(violation) = violations(&system, &history).first() {
+            let calls = shown(&system, &trace, violation).join("\n");
+            panic!("seed {seed}: {calls}");
+        }
+        tally.add(&system, &trace, &history);
+    }
+    println!("{tally}");
+    println!("no violation, {:.1?}", started.elapsed());
+    tally.assert_not_vacuous();
+}
+
+/// Tables that stay good with t - 2 in place of t, which makes the quorum smaller by one.
+const TWO_FAULTS_OR_MORE: &[(u8, u8, u8)] = &[
+    (7, 2, 0),
+    (8, 2, 0),
+    (9, 2, 1),
+    (10, 2, 0),
+    (10, 3, 0),
+    (11, 3, 0),
+    (12, 3, 1),
+    (13, 4, 0),
+];
+
+/// How many of 10,000 lists break each conclusion, and the shortest that breaks agreement.
+fn count_violations(rules: Rules) -> ([u64; 6], Vec<String>) {
+    let mut counts = [0; 6];
+    let mut shortest = Vec::new();
+    for seed in (first_seed()..).take(10_000) {
+        let (system, trace, history) = lawful_list(rules, seed);
+        for violation in violations(&system, &history) {
+            counts[violation.conclusion as usize] += 1;
+            let calls = shown(&system, &trace, &violation);
+            let shorter = shortest.is_empty() || calls.len() < shortest.len();
+            if violation.conclusion == Conclusion::Agreement && shorter {
+                shortest = calls;
+            }
+        }
+    }
+    (counts, shortest)
+}
+
+#[test]
+fn a_quorum_lowered_by_one_is_seen() {
+    let quorum_needed = Rules {
+        tables: TWO_FAULTS_OR_MORE,
+        ..LAWFUL
+    };
+    let quorum_lowered = Rules {
+        t_less: 2,
+        ..quorum_needed
+    };
+    assert_eq!(count_violations(quorum_needed).0, [0; 6]);
+    let (broken, shortest) = count_violations(quorum_lowered);
+    println!("quorum lowered by one, broken in 10000 lists:");
+    for conclusion in Conclusion::ALL {
+        println!("  {conclusion:?}: {}", broken[conclusion as usize]);
+    }
+    println!("{}", shortest.join("\n"));
+    assert!(broken[Conclusion::Agreement as usize] >= 100);
+}
+
+#[test]
+fn one_loss_more_than_d_is_seen() {
+    let rules = Rules {
+        missed_more: 1,
+        always_drained: true,
+        ..LAWFUL
+    };
+    let [mut premise_held, mut broken, mut broken_for_more] = [0; 3];
+    for seed in (first_seed()..).take(10_000) {
+        let (system, _, history) = lawful_list(rules, seed);
+        assert!(violations(&system, &history).is_empty());
+        let receivers = system.nearly_all() - 1;
+        assert!(demand3::reached(&history, receivers));
+        premise_held += u64::from(history.has_something_to_deliver());
+        broken += u64::from(demand3::broken_delivery(&history, system.nearly_all()).is_some());
+        broken_for_more += u64::from(demand3::broken_delivery(&history, receivers).is_some());
+    }
+    println!("one loss more than d: {premise_held} lists with something to deliver,");
+    println!("  {broken} in which fewer than c - d nodes delivered it,");
+    println!("  {broken_for_more} in which fewer did than each sending reached");
+    assert!(broken >= 100 && broken_for_more >= 100);
+}

@@ -1,0 +1,149 @@
+//! A system that runs: the correct nodes with their record buffers, and every call made through the exported functions and noted.
+
+use crate::trace::{bit, word, Bundle, Call, Fields, Payload, Slot, Step, System};
+use mbrb::random::Random;
+use mbrb::{host, Config};
+use std::collections::HashMap;
+
+/// What each outgoing byte is before a call. No bundle that reading accepts: bytes 6 and 7 are not zero.
+const UNSENT: u8 = 0xee;
+
+pub struct Run {
+    pub system: System,
+    /// what the nodes are handed as t: the system's own, or a smaller one, for a smaller quorum
+    t_in_configs: u8,
+    records: Vec<Vec<u8>>,
+    opened: u64,
+    pub trace: Vec<Step>,
+    /// which correct nodes have signed a payload in a slot
+    signed: HashMap<(Slot, Payload), u64>,
+    /// the bundles that correct nodes have sent, each once
+    pub sent: Vec<Bundle>,
+    reached: HashMap<Bundle, u64>,
+}
+
+impl Run {
+    /// Nothing is called yet; the buffers have any content.
+    pub fn new(system: System, t_in_configs: u8, random: &mut Random) -> Run {
+        let mut buffer = |_| {
+            (0..64 * usize::from(system.n))
+                .flat_map(|_| random.word().to_ne_bytes())
+                .collect()
+        };
+        Run {
+            system,
+            t_in_configs,
+            records: (0..system.n).map(&mut buffer).collect(),
+            opened: 0,
+            trace: Vec::new(),
+            signed: HashMap::new(),
+            sent: Vec::new(),
+            reached: HashMap::new(),
+        }
+    }
+
+    /// The table of a node, and the quorum that it goes by.
+    pub fn config(&self, own: u8) -> Config {
+        Config {
+            t: self.t_in_configs,
+            ..self.system.config(own)
+        }
+    }
+
+    pub fn broadcast(&mut self, node: u8, payload: &[u8], out_length: usize) {
+        self.open(node);
+        let mut out = vec![UNSENT; out_length];
+        let config = self.config(node);
+        let records = &mut self.records[usize::from(node)];
+        let code = host::broadcast(&config, payload, records, &mut out);
+        let payload = payload.to_vec();
+        self.note(node, Call::Broadcast { payload }, code, out);
+    }
+
+    pub fn receive(&mut self, node: u8, bundle: &[u8], out_length: usize) {
+        self.open(node);
+        let mut out = vec![UNSENT; out_length];
+        let config = self.config(node);
+        let records = &mut self.records[usize::from(node)];
+        let code = host::receive(&config, bundle, records, &mut out);
+        let bundle = bundle.to_vec();
+        self.note(node, Call::Receive { bundle }, code, out);
+    }
+
+    /// "each unit called opens the day first, and once only": "Opening a day leaves every byte zero in the buffer."
+    fn open(&mut self, node: u8) {
+        if self.opened & bit(node) == 0 {
+            self.opened |= bit(node);
+            self.records[usize::from(node)].fill(0);
+            self.note(node, Call::Open, 0, Vec::new());
+        }
+    }
+
+    fn note(&mut self, node: u8, call: Call, code: u32, out: Vec<u8>) {
+        let step = Step {
+            node,
+            call,
+            code,
+            out,
+        };
+        if let Some(slot_and_payload) = step.signs() {
+            *self.signed.entry(slot_and_payload).or_default() |= bit(node);
+        }
+        if let Some(bundle) = step.reached_by() {
+            *self.reached.entry(bundle).or_default() |= bit(node);
+        }
+        if let Some(bundle) = step.sends().filter(|bundle| !self.sent.contains(bundle)) {
+            self.sent.push(bundle);
+        }
+        self.trace.push(step);
+    }
+
+    /// The correct nodes whose signature on a payload in a slot exists.
+    pub fn signers(&self, slot: Slot, payload: Payload) -> u64 {
+        self.signed.get(&(slot, payload)).copied().unwrap_or(0)
+    }
+
+    /// The correct nodes that a bundle has not reached.
+    pub fn unreached(&self, bundle: &Bundle) -> u64 {
+        self.system.correct() & !self.reached.get(bundle).copied().unwrap_or(0)
+    }
+
+    /// What faulty nodes can hand out: a bundle that nobody reads, or one in which each correct node's bit is a signature that exists.
+    pub fn permits(&self, bundle: &[u8]) -> bool {
+        let Ok(bundle) = <&Bundle>::try_from(bundle) else {
+            return true;
+        };
+        let Fields {
+            slot,
+            signers,
+            payload,
+        } = Fields::of(bundle);
+        let read = bundle[6..8] == [0, 0]
+            && slot.day == self.system.day
+            && slot.sender < self.system.n
+            && slot.seq < 16
+            && signers & !self.config(0).mask() == 0
+            && signers & bit(slot.sender) != 0;
+        !read || signers & self.system.correct() & !self.signers(slot, payload) == 0
+    }
+
+    /// How much of a bundle is news to a node: nothing after delivery or beside another payload, little if it adds no signer.
+    pub fn news(&self, node: u8, bundle: &Bundle) -> u32 {
+        const DELIVERED: u8 = 2;
+        let fields = Fields::of(bundle);
+        let config = self.config(node);
+        let place = config.place(fields.slot.sender, fields.slot.seq);
+        let record = &self.records[usize::from(node)][place..place + 32];
+        let empty = self.opened & bit(node) == 0 || record[0] == 0;
+        let count = fields.signers.count_ones();
+        if !empty && record[0] == DELIVERED {
+            0
+        } else if !empty && record[16..] == fields.payload {
+            1 + (fields.signers & !word(&record[8..16])).count_ones()
+        } else if empty || count >= config.quorum() {
+            1 + count
+        } else {
+            0
+        }
+    }
+}

@@ -1,0 +1,146 @@
+//! The exported functions beside the reference: code, records and outgoing bytes of each call, on calls made from a seed.
+//!
+//! `MBRB_CALLS` sets how many calls, `MBRB_SEED` another seed, both decimal. With fewer than a hundred thousand calls some code, record
+//! or n may be too rare, and the test fails for that.
+
+#[path = "compare/comparison.rs"]
+mod comparison;
+#[path = "compare/damage.rs"]
+mod damage;
+#[path = "compare/node.rs"]
+mod node;
+#[path = "compare/records.rs"]
+mod records;
+#[path = "compare/system.rs"]
+mod system;
+#[path = "compare/tally.rs"]
+mod tally;
+
+use comparison::{call_both, Difference, Implementation, HOST, REFERENCE};
+use mbrb::random::Random;
+use mbrb::{reference, setting, Config};
+use system::System;
+use tally::Tally;
+
+const CALLS: u64 = 1_000_000;
+const SEED: u64 = 1;
+
+/// Gives both implementations the calls of a seed, up to the first on which they differ.
+fn compare(seed: u64, calls: u64, pair: &[Implementation; 2]) -> Result<Tally, Box<Difference>> {
+    let mut random = Random::new(seed);
+    let mut tally = Tally::default();
+    while tally.calls < calls {
+        let length = 1 + random.below(60) as u64;
+        let mut system = System::new(&mut random);
+        for _ in 0..length.min(calls - tally.calls) {
+            step(&mut random, &mut system, &mut tally, pair).map_err(|mut difference| {
+                difference.seed = seed;
+                difference.call = tally.calls + 1;
+                difference
+            })?;
+        }
+    }
+    Ok(tally)
+}
+
+/// Makes one call at a node of the system.
+fn step(
+    random: &mut Random,
+    system: &mut System,
+    tally: &mut Tally,
+    pair: &[Implementation; 2],
+) -> Result<(), Box<Difference>> {
+    system.disturb(random);
+    let (at, case) = system.next_call(random);
+    let node = &mut system.nodes[at];
+    let (code, out) = call_both(pair, &case, &mut node.records)?;
+    let clause = node.clause(&case);
+    tally.count(&case, &node.records.before, clause, code);
+    tally.lives += u64::from(node.completes_life(&case, code));
+    if code > 100 {
+        system.keep_sent(random, &out);
+    }
+    Ok(())
+}
+
+#[test]
+fn host_and_reference_agree_and_every_code_occurs() {
+    let (seed, calls) = (setting("MBRB_SEED", SEED), setting("MBRB_CALLS", CALLS));
+    println!("seed: {seed}");
+    let tally = compare(seed, calls, &[HOST, REFERENCE]).unwrap();
+    println!("{tally}");
+    tally.assert_complete((calls / 10_000).clamp(1, 100));
+}
+
+/// What the comparison says of an implementation that is the reference but for one thing. Repeating the calls before shows no
+/// difference, so what is said is about the call named.
+fn found(wrong: Implementation) -> Box<Difference> {
+    let pair = [REFERENCE, wrong];
+    let difference = compare(SEED, 100_000, &pair).err().expect("a difference");
+    assert!(compare(SEED, difference.call - 1, &pair).is_ok());
+    let text = format!("{difference:?}");
+    assert!(text.starts_with(&format!("seed {SEED}, call {}:", difference.call)));
+    difference
+}
+
+#[test]
+fn a_wrong_code_is_found() {
+    let difference = found(Implementation {
+        receive: |config, bundle, records, out| {
+            let code = reference::receive_code(config, bundle, records, out);
+            if code == 24 {
+                100
+            } else {
+                code
+            }
+        },
+        ..REFERENCE
+    });
+    assert_eq!(difference.codes, [24, 100]);
+    assert!(!difference.records_differ() && !difference.outs_differ());
+}
+
+#[test]
+fn a_wrong_record_byte_is_found() {
+    let difference = found(Implementation {
+        broadcast: |config, payload, records, out| {
+            let code = reference::broadcast_code(config, payload, records, out);
+            if code == 215 {
+                records[512 * usize::from(config.own) + 511] ^= 1;
+            }
+            code
+        },
+        ..REFERENCE
+    });
+    assert_eq!(difference.codes, [215, 215]);
+    assert!(difference.records_differ() && !difference.outs_differ());
+}
+
+#[test]
+fn a_wrong_outgoing_byte_is_found() {
+    let difference = found(Implementation {
+        receive: |config, bundle, records, out| {
+            let code = reference::receive_code(config, bundle, records, out);
+            if code == 100 {
+                out[31] ^= 1;
+            }
+            code
+        },
+        ..REFERENCE
+    });
+    assert_eq!(difference.codes, [100, 100]);
+    assert!(!difference.records_differ() && difference.outs_differ());
+}
+
+#[test]
+fn a_bad_config_accepted_is_found() {
+    let difference = found(Implementation {
+        receive: |config, bundle, records, out| {
+            let config = Config { d: 0, ..*config };
+            reference::receive_code(&config, bundle, records, out)
+        },
+        ..REFERENCE
+    });
+    assert_eq!(difference.codes[0], 1);
+    assert_ne!(difference.codes[1], 1);
+}

@@ -1,0 +1,72 @@
+//! Defects of a call that the refusals from the input are about, and of the buffers' lengths.
+
+use crate::comparison::{Case, Kind};
+use crate::node::Node;
+use crate::records::{choose, up_to};
+use mbrb::{random::Random, Config};
+
+/// Does one thing to a call that some refusal is about.
+pub fn damage(random: &mut Random, case: &mut Case, node: &Node) {
+    let length = 512 * usize::from(node.config.n);
+    let kinds = if case.kind == Kind::Receive { 12 } else { 4 };
+    match random.below(kinds) {
+        0 => {
+            case.config = bad_config(random, node.config);
+            let right = 512 * usize::from(case.config.n);
+            if random.once_in(2) && right <= node.records.room() {
+                case.records_length = right;
+            }
+        }
+        1 => case.out_length = [0, 31, 33, 64][random.below(4)],
+        2 => {
+            let lengths = [0, length - 512, length - 1, length + 1, length + 512];
+            case.records_length = lengths[random.below(5)];
+        }
+        3 => {
+            let length = match case.kind {
+                Kind::Broadcast => random.below(41),
+                Kind::Receive => [0, 16, 31, 33, 64][random.below(5)],
+            };
+            case.input.resize(length, 0);
+        }
+        _ => damage_bundle(random, &node.config, &mut case.input),
+    }
+}
+
+fn damage_bundle(random: &mut Random, config: &Config, bundle: &mut [u8]) {
+    if bundle.len() < 16 {
+        return;
+    }
+    let n = usize::from(config.n);
+    match random.below(8) {
+        0 => bundle[6 + random.below(2)] = 1 + random.below(255) as u8,
+        1 => bundle[random.below(4)] ^= 1 << random.below(8),
+        2 => bundle[..4].reverse(),
+        3 => bundle[4] = (n + up_to(random, 255 - n)) as u8,
+        4 => bundle[5] = 16 + up_to(random, 239) as u8,
+        5 => toggle(bundle, choose(random, !config.mask(), 1)),
+        6 => toggle(bundle, 1_u64.checked_shl(bundle[4].into()).unwrap_or(0)),
+        _ => bundle[random.below(bundle.len())] ^= 1 << random.below(8),
+    }
+}
+
+fn toggle(bundle: &mut [u8], signers: u64) {
+    for (byte, change) in bundle[8..16].iter_mut().zip(signers.to_be_bytes()) {
+        *byte ^= change;
+    }
+}
+
+/// A good config made bad, by one of its conditions or by sums that do not fit a byte.
+fn bad_config(random: &mut Random, mut config: Config) -> Config {
+    let Config { n, t, d, .. } = config;
+    match random.below(7) {
+        0 => config.n = 0,
+        1 => config.n = 65 + up_to(random, 190) as u8,
+        2 => config.own = n + up_to(random, usize::from(255 - n)) as u8,
+        3 => config.d = (n - 3 * t).div_ceil(2),
+        4 => config.t = (n - 2 * d).div_ceil(3),
+        5 => config.t = 64 + random.below(192) as u8,
+        _ => config.d = 64 + random.below(192) as u8,
+    }
+    config
+}

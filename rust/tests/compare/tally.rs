@@ -1,0 +1,155 @@
+//! How often each code was seen, and from what.
+
+use crate::comparison::{Case, Kind};
+use crate::records::{Clause, CLAUSES, DELIVERED, EMPTY, HELD};
+use std::collections::BTreeMap;
+use std::fmt;
+
+/// What a bundle that is not refused for its own sake meets.
+#[derive(Clone, Copy, Debug, PartialEq, Eq, PartialOrd, Ord)]
+pub enum Meets {
+    Empty,
+    SamePayload,
+    AnotherPayload,
+    Delivered,
+}
+
+#[derive(Default)]
+pub struct Tally {
+    pub calls: u64,
+    codes: BTreeMap<(Kind, u32), u64>,
+    /// calls that were not refused, by the n of the config
+    accepted: BTreeMap<(Kind, u8), u64>,
+    /// refusals 21, by the clause that the record was made malformed by
+    clauses: BTreeMap<(Kind, Clause), u64>,
+    meetings: BTreeMap<(Meets, u32), u64>,
+    /// slots signed, kept, delivered and then refused at one node, all by calls
+    pub lives: u64,
+}
+
+impl Tally {
+    /// `records` as they were before the call; `clause` is of the record that the call finds malformed, if it does.
+    pub fn count(&mut self, case: &Case, records: &[u8], clause: Option<Clause>, code: u32) {
+        self.calls += 1;
+        *self.codes.entry((case.kind, code)).or_default() += 1;
+        if code >= 100 {
+            let key = (case.kind, case.config.n);
+            *self.accepted.entry(key).or_default() += 1;
+        }
+        if let (21, Some(clause)) = (code, clause) {
+            *self.clauses.entry((case.kind, clause)).or_default() += 1;
+        }
+        if case.kind == Kind::Receive && code >= 22 {
+            if let Some(meets) = meets(case, records) {
+                *self.meetings.entry((meets, code)).or_default() += 1;
+            }
+        }
+    }
+
+    /// Fails if something that can occur was seen less than `least` times, or if something was seen that cannot occur.
+    pub fn assert_complete(&self, least: u64) {
+        let codes = BROADCAST_CODES.map(|code| (Kind::Broadcast, code));
+        let codes = codes
+            .into_iter()
+            .chain((200..=215).map(|code| (Kind::Broadcast, code)))
+            .chain(RECEIVE_CODES.map(|code| (Kind::Receive, code)));
+        assert_seen("code", &self.codes, codes, least);
+        let kinds = [Kind::Broadcast, Kind::Receive];
+        let sizes = kinds
+            .into_iter()
+            .flat_map(|k| (1..=64).map(move |n| (k, n)));
+        assert_seen("accepted at n", &self.accepted, sizes, least);
+        let clauses = kinds.into_iter().flat_map(|k| CLAUSES.map(|c| (k, c)));
+        let clauses = clauses.filter(|&(kind, clause)| can_refuse(kind, clause));
+        assert_seen("malformed by", &self.clauses, clauses, least);
+        assert_seen("record and code", &self.meetings, MEETINGS, least);
+        assert!(
+            self.lives >= least,
+            "whole lives: {}, not {least}",
+            self.lives
+        );
+    }
+}
+
+const BROADCAST_CODES: [u32; 6] = [1, 9, 10, 20, 21, 25];
+
+const RECEIVE_CODES: [u32; 17] = [
+    1, 2, 3, 4, 5, 6, 7, 8, 10, 20, 21, 22, 23, 24, 100, 101, 102,
+];
+
+const MEETINGS: [(Meets, u32); 9] = [
+    (Meets::Empty, 23),
+    (Meets::Empty, 101),
+    (Meets::Empty, 102),
+    (Meets::SamePayload, 100),
+    (Meets::SamePayload, 102),
+    (Meets::AnotherPayload, 23),
+    (Meets::AnotherPayload, 24),
+    (Meets::AnotherPayload, 102),
+    (Meets::Delivered, 22),
+];
+
+/// In our own slots the sender's bit is ours, so no record lacks just one of the two.
+fn can_refuse(kind: Kind, clause: Clause) -> bool {
+    let one_of_two = matches!(clause, Clause::HeldWithoutSender | Clause::HeldWithoutOwn);
+    kind == Kind::Receive || !one_of_two
+}
+
+fn meets(case: &Case, records: &[u8]) -> Option<Meets> {
+    let (start, length) = case.concerned();
+    let record = &records[start..start + length];
+    let same = record.get(16..) == case.input.get(16..);
+    match *record.first()? {
+        EMPTY => Some(Meets::Empty),
+        HELD if same => Some(Meets::SamePayload),
+        HELD => Some(Meets::AnotherPayload),
+        DELIVERED => Some(Meets::Delivered),
+        _ => None,
+    }
+}
+
+fn assert_seen<Key: Copy + Ord + fmt::Debug>(
+    what: &str,
+    seen: &BTreeMap<Key, u64>,
+    possible: impl IntoIterator<Item = Key>,
+    least: u64,
+) {
+    let mut others = seen.clone();
+    for key in possible {
+        let count = others.remove(&key).unwrap_or(0);
+        assert!(count >= least, "{what} {key:?}: {count}, not {least}");
+    }
+    assert!(others.is_empty(), "{what} cannot occur: {others:?}");
+}
+
+impl fmt::Display for Tally {
+    fn fmt(&self, f: &mut fmt::Formatter) -> fmt::Result {
+        writeln!(f, "calls: {}", self.calls)?;
+        show(f, "code", &self.codes)?;
+        show(f, "21, by what makes the record malformed", &self.clauses)?;
+        show(f, "what a bundle meets, and the code", &self.meetings)?;
+        writeln!(f, "whole lives of slots: {}", self.lives)?;
+        for kind in [Kind::Broadcast, Kind::Receive] {
+            let counts = self.accepted.range((kind, 0)..=(kind, 255));
+            let (sizes, least) = (counts.clone().count(), counts.map(|(_, count)| count).min());
+            let least = least.unwrap_or(&0);
+            writeln!(
+                f,
+                "{kind:?} accepted: {sizes} values of n, each at least {least} times"
+            )?;
+        }
+        Ok(())
+    }
+}
+
+fn show<A: fmt::Debug, B: fmt::Debug>(
+    f: &mut fmt::Formatter,
+    title: &str,
+    counts: &BTreeMap<(A, B), u64>,
+) -> fmt::Result {
+    writeln!(f, "{title}")?;
+    for ((first, second), count) in counts {
+        writeln!(f, "  {:34}{count:>9}", format!("{first:?} {second:?}"))?;
+    }
+    Ok(())
+}
