@@ -1,6 +1,6 @@
 /* Byzantine reliable broadcast with a message adversary: the C interface, for C and C++.
  *
- * A cascade has n units. Any t of them may be faulty, and each sending may miss d of the others; n > 3t + 2d. A unit announces a body of
+ * A cascade has n units. Any t of them may be faulty, and each sending may miss d sound ones; n > 3t + 2d. A unit announces a body of
  * 16 bytes, takes the bundles that come in, and sends on what the calls tell it to. No two sound units deliver different bodies in one
  * slot (a day, a sender and a number from 0 to 15), whatever faulty units send and whatever is lost, late, twice or out of order. That, and
  * every code and byte below, is proved of the functions in this library.
@@ -13,7 +13,7 @@
  *
  * Of the memory that it lends to a call:
  * - Each pointer has at least as many bytes behind it as the length beside it says, until the call is back. No pointer is null, not even one
- *   whose length is 0. `out` need not be initialised.
+ *   whose length is 0. Any alignment will do, and what `out` holds before does not matter.
  * - The three buffers of a call do not overlap.
  * - Nobody else writes to them during the call, nor reads `records` or `out`: no interrupt, no other core, no device.
  * A call is safe with all bytes, lengths and numbers that keep to this. It refuses what it cannot use, and then changes no byte.

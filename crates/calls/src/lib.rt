@@ -211,7 +211,7 @@ fn search(all: u64, quorum: u32, ours: u64, rest: &[u8]) -> u8
     if record.is_blank() {
         return config::SLOTS - ((rest.len() / config::RECORD_SIZE % 256) as u8);
     }
-    if !record.sound(all, quorum, ours, ours) {
+    if !record.well_formed_by(all, quorum, ours, ours) {
         return MALFORMED;
     }
     search(all, quorum, ours, &rest[config::RECORD_SIZE..])

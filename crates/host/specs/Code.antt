@@ -1,8 +1,11 @@
 -- Document 01, "Calls": "A C host announces and takes through numbers and byte slices. There the result is the refusal's number, or 100 kept, 101 signed,
 -- 102 delivered, 200 plus the number for announced."
 -- Assumes nothing.
-use mathlib.Core.List.{List}
+use mathlib.Core.Path.{_≡_}
+use mathlib.Core.Bool.{Bool, true, false, _||_}
+use mathlib.Core.List.{List, [], _∷_}
 use Prim.Native.Nat.{ℕ, _+_}
+use lib.Dec.{eqb}
 use Rattle.refusal.specs.Outcome.{Outcome, refused, done}
 use Rattle.config.specs.declared.Config.{Config}
 use Rattle.protocol.specs.Slot.{Answer, announced, kept, signed, delivered, Turn}
@@ -33,3 +36,31 @@ receivedCode (done turn) = answerCode (turn .answer)
 abbrev pub reportedCode : Outcome (Answer × ℕ) → ℕ
 reportedCode (refused number) = number
 reportedCode (done told) = answerCode (told .0)
+
+-- the codes that a host may see, the refusals as document 01 lists them: "announcing 1, 9, 10, 20, 21, 25", and 200 to 215 for the sixteen
+-- numbers
+unfoldable pub broadcastCodes : List ℕ
+broadcastCodes =
+    1 ∷ 9 ∷ 10 ∷ 20 ∷ 21 ∷ 25
+    ∷ 200 ∷ 201 ∷ 202 ∷ 203 ∷ 204 ∷ 205 ∷ 206 ∷ 207 ∷ 208 ∷ 209 ∷ 210 ∷ 211 ∷ 212 ∷ 213 ∷ 214 ∷ 215
+    ∷ []
+
+-- "taking 1-8, 10, 20-24", and 100 to 102 for the three answers
+unfoldable pub receiveCodes : List ℕ
+receiveCodes =
+    1 ∷ 2 ∷ 3 ∷ 4 ∷ 5 ∷ 6 ∷ 7 ∷ 8 ∷ 10
+    ∷ 20 ∷ 21 ∷ 22 ∷ 23 ∷ 24
+    ∷ 100 ∷ 101 ∷ 102
+    ∷ []
+
+-- the code is one of the list
+unfoldable pub listed : List ℕ → ℕ → Bool
+listed [] code = false
+listed (first ∷ rest) code = eqb first code || listed rest code
+
+-- a call gives a code of its list and no other, with any table and any lists
+abbrev pub BroadcastListed : Type 0
+BroadcastListed = (w : Config) (payload records out : List ℕ) → listed broadcastCodes (announcedCode (broadcast w payload records out)) ≡ true
+
+abbrev pub ReceiveListed : Type 0
+ReceiveListed = (w : Config) (bundle records out : List ℕ) → listed receiveCodes (receivedCode (receive w bundle records out)) ≡ true

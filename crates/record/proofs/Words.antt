@@ -22,7 +22,7 @@ use Rattle.config.specs.Config.{quorum, recordSize}
 use Rattle.protocol.specs.Slot as slot
 use Rattle.protocol.specs.Slot.{Empty, Held, Delivered}
 use Rattle.record.specs.declared.Record.{Record}
-use Rattle.record.specs.Record.{fields, image, stateIn, signersIn, payloadIn, recordIn, fits, wellFormed, bytes, loaded, Stated, soundBy}
+use Rattle.record.specs.Record.{fields, image, stateIn, signersIn, payloadIn, recordIn, fits, wellFormed, bytes, loaded, Stated, wellFormedBy}
 
 -- the weight of the first byte of eight
 abbrev top : ℕ
@@ -188,7 +188,7 @@ module _ (r : Record) (h : r .head < 2 ^ 64) where
 
     -- ---- the same by sets that a caller has
 
-    -- the tests of `soundBy`, with what the sets stand for
+    -- the tests of `wellFormedBy`, with what the sets stand for
     tests : Bool → Bool → Bool → Bool → Bool → Bool
     tests empty inside held sender delivered =
         cond empty (blank (bytes r))
@@ -196,10 +196,10 @@ module _ (r : Record) (h : r .head < 2 ^ 64) where
         && cond held (sender && member (r .signers) (w .own))
         (sender && (delivered && leb (quorum w) (size (r .signers)))))
 
-    pub sound-by : r .high < 2 ^ 64 → r .low < 2 ^ 64
-        → soundBy (below (w .n)) (quorum w) (insert 0 (w .own)) (insert 0 sender) r ≡ wellFormed w sender (bytes r)
-    unfolding soundBy tests
-    sound-by hh hl =
+    pub well-formed-by : r .high < 2 ^ 64 → r .low < 2 ^ 64
+        → wellFormedBy (below (w .n)) (quorum w) (insert 0 (w .own)) (insert 0 sender) r ≡ wellFormed w sender (bytes r)
+    unfolding wellFormedBy tests
+    well-formed-by hh hl =
         rw (within-below (r .signers) (w .n) s, meets-node (r .signers) sender s, meets-node (r .signers) (w .own) s)
         (go (eqb (r .head) 0) refl (within (r .signers) (w .n)) refl (eqb (r .head) top) refl (member (r .signers) sender) refl (eqb (r .head) 0x200_0000_0000_0000) refl)
       where

@@ -71,8 +71,8 @@ abbrev pub Stated : Record → Type 0
 Stated r = (r .head ≡ 0) ⊎ ((r .head ≡ 0x100_0000_0000_0000) ⊎ (r .head ≡ 0x200_0000_0000_0000))
 
 -- soundness against sets and a quorum that the caller has: all nodes, our own, the sender. With those of a table and a sender it is `wellFormed`.
-unfoldable pub soundBy : ℕ → ℕ → ℕ → ℕ → Record → Bool
-soundBy all q own sender r =
+unfoldable pub wellFormedBy : ℕ → ℕ → ℕ → ℕ → Record → Bool
+wellFormedBy all q own sender r =
     cond (eqb (r .head) 0) (blank (bytes r))
     (leb (r .signers) all
     && cond (eqb (r .head) 0x100_0000_0000_0000) (meets (r .signers) sender && meets (r .signers) own)

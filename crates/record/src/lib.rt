@@ -12,7 +12,7 @@ ghost use lib.ListN.{length};
 ghost use Rattle.octets.specs.Octets.{bytesOf, blank, same};
 ghost use Rattle.config.specs.Config.{quorum, recordSize};
 ghost use Rattle.protocol.specs.Slot.{update as updateOf, Empty, Held, isDelivered};
-ghost use Rattle.record.specs.Record.{bytes as bytesIn, loaded, wellFormed, recordIn, Stated, soundBy, received, stepOf, imaged};
+ghost use Rattle.record.specs.Record.{bytes as bytesIn, loaded, wellFormed, recordIn, Stated, wellFormedBy, received, stepOf, imaged};
 
 // The first word of a record: its state in the highest byte, the others zero.
 pub const HELD: u64 = 0x100_0000_0000_0000;
@@ -88,7 +88,7 @@ impl Record {
     pub fn well_formed(self, config: Config, sender: u8) -> bool
         ensures { λ r. ⌜ r ≡ wellFormed config sender (bytesIn self) ⌝ }
     {
-        self.sound(
+        self.well_formed_by(
             signers::below(config.n),
             config.quorum(),
             signers::insert(0, config.own),
@@ -99,8 +99,8 @@ impl Record {
     // The same for a caller that looks at many records and has the sets already: all nodes, our own and
     // the sender. The sender is asked for in each branch: before them, the compiler joins two tests into
     // flags, which costs more than both.
-    pub fn sound(self, all: u64, quorum: u32, own: u64, sender: u64) -> bool
-        ensures { λ r. ⌜ r ≡ soundBy all quorum own sender self ⌝ }
+    pub fn well_formed_by(self, all: u64, quorum: u32, own: u64, sender: u64) -> bool
+        ensures { λ r. ⌜ r ≡ wellFormedBy all quorum own sender self ⌝ }
     {
         if self.head == 0 {
             return self.is_blank();
@@ -153,7 +153,7 @@ impl Record {
         self.low == low
     }
 
-    // What a bundle does to a record that is sound. Its first word is tested as it is in `sound`, so that the
+    // What a bundle does to a record that is sound. Its first word is tested as it is there, so that the
     // compiler tests it once.
     fn update(self, config: Config, signers: u64, high: u64, low: u64) -> Step
         requires { ⌜ Stated self ⌝ }

@@ -2,11 +2,11 @@
 -- none applied. Every call's refusals go by these laws.
 -- Assumes nothing.
 use mathlib.Core.Path.{_≡_, refl, sym, ap}
-use mathlib.Core.Bool.{Bool, true, false, not}
+use mathlib.Core.Bool.{Bool, true, false, not, _&&_, and-eq-true-iff}
 use mathlib.Core.List.{List, [], _∷_, _++_}
 use Prim.Native.Nat.{ℕ}
 use native.Mathlib.Omega.{arith}
-use Rattle.refusal.specs.Outcome.{Outcome, refused, done, Reason, _if_, unless, after, plain}
+use Rattle.refusal.specs.Outcome.{Outcome, refused, done, Reason, _if_, unless, after, plain, _and-then_}
 
 -- none of the reasons applies
 abbrev pub Clear : List Reason → Type 0
@@ -121,3 +121,28 @@ append-clear [] second h = (tt, h)
 append-clear ((number if applies) ∷ first) second h =
     let below = append-clear first second (h .1) in
     ((h .0, below .0), below .1)
+
+-- the number of every reason passes a test
+abbrev pub numbersPass : (ℕ → Bool) → List Reason → Bool
+numbersPass test [] = true
+numbersPass test ((number if applies) ∷ rest) = test number && numbersPass test rest
+
+-- what a call may come to: a refusal by a number that passes the test, or work of which the claim holds
+abbrev pub Comes : {A : Type 0} → (ℕ → Bool) → (A → Type 0) → Outcome A → Type 0
+Comes test claim (refused number) = test number ≡ true
+Comes test claim (done work) = claim work
+
+-- reasons refuse by their own numbers and by no others
+pub unless-comes : {A : Type 0} (test : ℕ → Bool) (claim : A → Type 0) (reasons : List Reason) (work : A) → numbersPass test reasons ≡ true → claim work
+    → Comes test claim (unless reasons work)
+unfolding unless
+unless-comes test claim [] work e h = h
+unless-comes test claim ((number if true) ∷ rest) work e h = and-eq-true-iff (test number) (numbersPass test rest) .0 e .0
+unless-comes test claim ((number if false) ∷ rest) work e h =
+    unless-comes test claim rest work (and-eq-true-iff (test number) (numbersPass test rest) .0 e .1) h
+
+-- and one outcome after the other by the numbers of both
+pub then-comes : {A B : Type 0} (test : ℕ → Bool) (claim : B → Type 0) (outcome : Outcome A) (next : A → Outcome B)
+    → Comes test (λ _. Unit) outcome → ((work : A) → Comes test claim (next work)) → Comes test claim (outcome and-then next)
+then-comes test claim (refused number) next h later = h
+then-comes test claim (done work) next h later = later work

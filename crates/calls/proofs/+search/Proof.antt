@@ -8,7 +8,7 @@ use Rattle.octets.specs.Octets.{blank}
 use Rattle.config.specs.declared.Config.{Config}
 use Rattle.config.specs.Config.{recordSize}
 use Rattle.record.specs.Record.{bytes, wellFormed}
-use Rattle.record.proofs.Words.{sound-by}
+use Rattle.record.proofs.Words.{well-formed-by}
 use Rattle.calls.specs.Settled.{Table, scanned}
 use Rattle.calls.proofs.Found.{scan-none, scan-free, scan-malformed, scan-next, found-at, found-none, found-malformed}
 use Prim.Native.Nat.{ℕ, _-_, _/_, _≤_, _<_}
@@ -20,7 +20,7 @@ use Rattle.calls.proofs.search.Kinds as search-kinds
 use Rattle.calls.proofs.+search.Lts-search as search-lts
 use Rattle.calls.proofs.get.Reads as get-reads
 use Rattle.record.proofs.Record.is_blank.Reads as is-blank-reads
-use Rattle.record.proofs.Record.sound.Reads as sound-reads
+use Rattle.record.proofs.Record.well_formed_by.Reads as well-formed-by-reads
 use Rattle.calls.proofs.+search.{statement}
 use Rattle.calls.proofs.+search.Tie.{close}
 
@@ -40,8 +40,8 @@ claims t = (
   get-reads.Learnt,
   is-blank-reads.Asked,
   is-blank-reads.Learnt,
-  sound-reads.Asked,
-  sound-reads.Learnt,
+  well-formed-by-reads.Asked,
+  well-formed-by-reads.Learnt,
   search-below t,
   search′.Post,
 )
@@ -53,11 +53,11 @@ first-known t c = c .get .ensures
 blank-known : (t : ℕ) (c : search-lts.After-is-blank (claims t) (search-at t) search′.Post) → c .is-blank .result ≡ blank (take recordSize (c .before .before .before .before .args .rest .now))
 blank-known t c = c .is-blank .ensures ∙ ap blank (first-known t (c .before))
 
-sound-known : (t : ℕ) (c : search-lts.After-sound (claims t) (search-at t) search′.Post) (w : Config) → Table w (c .before .before .before .before .before .before .args .all) (c .before .before .before .before .before .before .args .quorum) (c .before .before .before .before .before .before .args .ours)
-    → c .sound .result ≡ wellFormed w (w .own) (take recordSize (c .before .before .before .before .before .before .args .rest .now))
+sound-known : (t : ℕ) (c : search-lts.After-well-formed-by (claims t) (search-at t) search′.Post) (w : Config) → Table w (c .before .before .before .before .before .before .args .all) (c .before .before .before .before .before .before .args .quorum) (c .before .before .before .before .before .before .args .ours)
+    → c .well-formed-by .result ≡ wellFormed w (w .own) (take recordSize (c .before .before .before .before .before .before .args .rest .now))
 sound-known t c w g =
-    c .sound .ensures
-    ∙ rw (g .0, g .1 .0, g .1 .1) (sound-by (c .before .before .before .get .result) (omega arith) w (w .own) (omega arith) (omega arith) (omega arith))
+    c .well-formed-by .ensures
+    ∙ rw (g .0, g .1 .0, g .1 .1) (well-formed-by (c .before .before .before .get .result) (omega arith) w (w .own) (omega arith) (omega arith) (omega arith))
     ∙ ap (wellFormed w (w .own)) (first-known t (c .before .before .before))
 
 -- what is handed on is all behind it
@@ -88,8 +88,8 @@ search-returns-2 t c = λ w g.
     let some = c .before .before .before .if1 .left in
     found-at _ (length (c .before .before .before .before .before .args .rest .now) / recordSize) (omega arith) (omega (arith, some)) ∙ sym (scan-free w _ whole some (sym (blank-known t (c .before)) ∙ c .if2 .taken))
 
-search-sound-requires : (t : ℕ) → search-lts.Need-sound-requires (claims t) (search-at t) search′.Post
-search-sound-requires t c κs = tt
+search-well-formed-by-requires : (t : ℕ) → search-lts.Need-well-formed-by-requires (claims t) (search-at t) search′.Post
+search-well-formed-by-requires t c κs = tt
 
 search-returns-3 : (t : ℕ) → search-lts.Need-returns-3 (claims t) (search-at t) search′.Post
 search-returns-3 t c = λ w g.
@@ -127,7 +127,7 @@ pub +search-spec : {M : Type 1} → statement M
     (search-cast-result t)
     (search-sub-result t)
     (search-returns-2 t)
-    (search-sound-requires t)
+    (search-well-formed-by-requires t)
     (search-returns-3 t)
     (search-sub-search t)
     (search-part-search-start t)
