@@ -2,8 +2,8 @@
  *
  * A cascade has n units. Any t of them may be faulty, and each sending may miss d sound ones; n > 3t + 2d. A unit announces a body of
  * 16 bytes, takes the bundles that come in, and sends on what the calls tell it to. No two sound units deliver different bodies in one
- * slot (a day, a sender and a number from 0 to 15), whatever faulty units send and whatever is lost, late, twice or out of order. That, and
- * every code and byte below, is proved of the functions in this library.
+ * slot (a day, a sender and a number from 0 to 15), whatever faulty units send and whatever is lost, late, twice or out of order. That is
+ * proved of the functions in this library, with every code and byte that they give, for hosts that keep to what follows.
  *
  * Build the library with `rt staticlib host` and link target/staticlib/libhost.a, for x86-64. It allocates nothing, keeps nothing between calls, and
  * calls nothing of the host's. examples/host has a program to start from.
@@ -20,8 +20,11 @@
  *
  * Of the records:
  * - A unit has one record buffer of MBRB_RECORDS_SIZE(n) bytes a day. Before the first call of the day the host opens it: it sets every byte
- *   to zero, once. From then on only the calls write to it, and it is kept until the day is over, through a restart too: what a call has
- *   changed is safe before `out` is sent. A unit that loses its records may sign a second body in one slot, and counts as faulty from then on.
+ *   to zero, once, and a day is never opened again, not even where a clock was set back. From then on only the calls write to it, and it is
+ *   kept until the day is over. A unit that loses it may sign a second body in one slot, and counts as faulty from then on.
+ * - So where a unit may restart, what a call has changed is safe before `out` is sent, the 32 bytes of the record together, and with them
+ *   `out` and the signatures behind its bits until they are sent. After a restart a bundle that was not sent is sent, and a delivered body
+ *   that was not acted on is acted on: the calls do not tell it a second time.
  *
  * Of the cascade:
  * - n, t, d and day are the same at all units, and `own` is different at each.
@@ -31,7 +34,7 @@
  * - Coming in, the host's key chip checks each signature of units 0 to n - 1 before the call, and the host clears the bit of each that does not
  *   hold. Bits at n and above may stay: the call refuses them.
  * - Going out, the key chip adds the signatures that the bits name: our own, if our bit is set, and those that came with the
- *   bundles of that slot and body.
+ *   bundles of that slot and body. It signs nothing else in a slot.
  *
  * Of the radio:
  * - After MBRB_SIGNED, MBRB_DELIVERED and MBRB_ANNOUNCED(number) `out` holds a bundle, which is to be sent to all units, the sending one among
@@ -64,7 +67,8 @@ extern "C" {
 #define MBRB_SIGNERS_AT 8 /* 8 bytes: unit u is the bit of weight 2 to the power u */
 #define MBRB_BODY_AT 16   /* 16 bytes, in a record too */
 
-/* Where the record of a slot starts in the records. Its first byte is the state below; its body starts MBRB_BODY_AT bytes on. */
+/* Where the record of a slot starts in the records. Its first byte is the state below; its body starts MBRB_BODY_AT bytes on. For a display:
+ * of records that the calls have left. What is to be acted on stands in `out` at MBRB_DELIVERED. */
 #define MBRB_RECORD_AT(sender, number) (((size_t)(sender) * MBRB_NUMBERS + (number)) * MBRB_RECORD_SIZE)
 #define MBRB_RECORD_EMPTY 0
 #define MBRB_RECORD_HELD 1

@@ -96,7 +96,7 @@ static const char *act_on(uint32_t code, const struct unit *unit, const uint8_t 
     }
 }
 
-/* `arrived` has 32 bytes: firmware drops frames of any other length before they come here. */
+/* `arrived` is the bundle of a frame, 32 bytes. The signatures come beside it in the frame, and go to the key chip. */
 static void take(struct unit *unit, const uint8_t *arrived)
 {
     uint8_t bundle[MBRB_BUNDLE_SIZE], out[MBRB_BUNDLE_SIZE];
@@ -115,7 +115,7 @@ static void take(struct unit *unit, const uint8_t *arrived)
     printf(": %" PRIu32 " %s\n", code, words);
 }
 
-/* What is delivered stays in the records until the day is over. */
+/* What is delivered stays in the records until the day is over, for a display. Firmware acts where act_on says so, and not on this. */
 static void show(const struct unit *unit)
 {
     for (uint8_t sender = 0; sender < UNITS; sender++)

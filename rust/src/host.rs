@@ -4,7 +4,6 @@
 
 use crate::Config;
 
-#[link(name = "host", kind = "static")]
 extern "C" {
     fn mbrb_broadcast(
         n: u8,

@@ -3,6 +3,8 @@
 //! `MBRB_CALLS` sets how many calls, `MBRB_SEED` another seed, both decimal. With fewer than a hundred thousand calls some code, record
 //! or n may be too rare, and the test fails for that.
 
+#[path = "compare/arena.rs"]
+mod arena;
 #[path = "compare/comparison.rs"]
 mod comparison;
 #[path = "compare/damage.rs"]
@@ -16,7 +18,8 @@ mod system;
 #[path = "compare/tally.rs"]
 mod tally;
 
-use comparison::{call_both, Difference, Implementation, HOST, REFERENCE};
+use arena::{bundle, Arena};
+use comparison::{call_both, Difference, Implementation, Kind, HOST, REFERENCE};
 use mbrb::random::Random;
 use mbrb::{reference, setting, Config};
 use system::System;
@@ -70,6 +73,43 @@ fn host_and_reference_agree_and_every_code_occurs() {
     let tally = compare(seed, calls, &[HOST, REFERENCE]).unwrap();
     println!("{tally}");
     tally.assert_complete((calls / 10_000).clamp(1, 100));
+}
+
+/// The codes of one call by each implementation, on memory that is the same at both, and the same afterwards.
+fn codes_in_arenas(shift: usize, kind: Kind, lengths: [usize; 3], input: &[u8]) -> u32 {
+    let [(code, bytes), (other_code, other_bytes)] = [HOST, REFERENCE].map(|implementation| {
+        let mut arena = Arena::new(&mut Random::new(SEED), shift, lengths, input);
+        let code = arena.call(&implementation, kind);
+        (code, arena.bytes)
+    });
+    assert_eq!(code, other_code);
+    assert!(bytes == other_bytes, "memory differs after {code}");
+    code
+}
+
+#[test]
+fn buffers_may_start_anywhere_and_nothing_around_them_changes() {
+    for shift in 0..32 {
+        let at = |kind, input: &[u8]| codes_in_arenas(shift, kind, [input.len(), 2048, 32], input);
+        assert_eq!(at(Kind::Broadcast, &[b'a'; 16]), 200);
+        assert_eq!(at(Kind::Receive, &bundle(1)), 101);
+        assert_eq!(at(Kind::Receive, &bundle(1 | 4)), 102);
+        assert_eq!(at(Kind::Receive, &bundle(4)), 8);
+    }
+}
+
+#[test]
+fn a_length_counts_in_full() {
+    for more in [0x100, 0x1_0000, 0x100_0000] {
+        let broadcast = |lengths| codes_in_arenas(0, Kind::Broadcast, lengths, &[b'a'; 16]);
+        let receive = |lengths| codes_in_arenas(0, Kind::Receive, lengths, &bundle(1));
+        assert_eq!(broadcast([16 + more, 2048, 32]), 9);
+        assert_eq!(broadcast([16, 2048, 32 + more]), 10);
+        assert_eq!(broadcast([16, 2048 + more, 32]), 20);
+        assert_eq!(receive([32 + more, 2048, 32]), 2);
+        assert_eq!(receive([32, 2048, 32 + more]), 10);
+        assert_eq!(receive([32, 2048 + more, 32]), 20);
+    }
 }
 
 /// What the comparison says of an implementation that is the reference but for one thing. Repeating the calls before shows no

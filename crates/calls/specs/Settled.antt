@@ -33,8 +33,8 @@ unfoldable pub settledOut : Config → Header → Outcome (Answer × List ℕ) �
 settledOut w h step out = after step (λ turn. cond (sends (turn .0)) (sent w (h .sender) (h .seq) (turn .1)) out) out
 
 -- sets and quorum are those of the table
-abbrev pub Table : Config → ℕ → ℕ → ℕ → Type 0
-Table w all q ours = (all ≡ below (w .n)) × ((q ≡ quorum w) × (ours ≡ insert 0 (w .own)))
+abbrev pub SetsOf : Config → ℕ → ℕ → ℕ → Type 0
+SetsOf w all q ours = (all ≡ below (w .n)) × ((q ≡ quorum w) × (ours ≡ insert 0 (w .own)))
 
 -- the search over the last `left` of our records: it looks at one and hands on what is behind it
 unfoldable pub scanned : Config → List ℕ → ℕ → Outcome ℕ
@@ -49,7 +49,7 @@ foundOf number = cond (ltb number slots) (done number) (cond (eqb number slots) 
 
 -- for a table with these sets and this quorum, it is what the search over all that is left finds
 abbrev pub Found : ℕ → ℕ → ℕ → List ℕ → ℕ → Type 0
-Found all q ours rest number = (w : Config) → Table w all q ours → foundOf number ≡ scanned w rest (length rest / recordSize)
+Found all q ours rest number = (w : Config) → SetsOf w all q ours → foundOf number ≡ scanned w rest (length rest / recordSize)
 
 -- the number of a refusal; 1 where there is none
 abbrev pub numberIn : {A : Type 0} → Outcome A → ℕ

@@ -13,8 +13,8 @@ use Rattle.calls.specs.Broadcast.{broadcast}
 use Rattle.calls.specs.Receive.{receive}
 
 -- the table, given as five numbers
-abbrev pub table : ℕ → ℕ → ℕ → ℕ → ℕ → Config
-table n t d own day = record { n = n; t = t; d = d; own = own; day = day }
+abbrev pub configOf : ℕ → ℕ → ℕ → ℕ → ℕ → Config
+configOf n t d own day = record { n = n; t = t; d = d; own = own; day = day }
 
 -- the code of announcing: what it gives is the number
 abbrev pub announcedCode : Outcome ℕ → ℕ

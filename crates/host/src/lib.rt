@@ -8,7 +8,7 @@ use config::Config;
 ghost use mathlib.Core.Path.{_≡_};
 ghost use Rattle.calls.specs.Broadcast.{broadcast, broadcastRecords, broadcastOut, announcementOf};
 ghost use Rattle.calls.specs.Receive.{receive, receiveRecords, receiveOut, receiptOf};
-ghost use Rattle.host.specs.Code.{table, announcedCode, receivedCode, reportedCode};
+ghost use Rattle.host.specs.Code.{configOf, announcedCode, receivedCode, reportedCode};
 
 // Broadcasts a payload. The code is 200 plus the sequence number, or the refusal's number.
 #[no_mangle]
@@ -22,9 +22,9 @@ pub extern "C" fn mbrb_broadcast(
     records: &mut [u8],
     out: &mut [u8],
 ) -> u32
-    ensures { λ r. ⌜ r ≡ announcedCode (broadcast (table n t d own day) (now (payload .entry)) (now (records .entry)) (now (out .entry))) ⌝ }
-    ensures { λ _. ⌜ now (records .exit) ≡ broadcastRecords (table n t d own day) (now (payload .entry)) (now (records .entry)) (now (out .entry)) ⌝ }
-    ensures { λ _. ⌜ now (out .exit) ≡ broadcastOut (table n t d own day) (now (payload .entry)) (now (records .entry)) (now (out .entry)) ⌝ }
+    ensures { λ r. ⌜ r ≡ announcedCode (broadcast (configOf n t d own day) (now (payload .entry)) (now (records .entry)) (now (out .entry))) ⌝ }
+    ensures { λ _. ⌜ now (records .exit) ≡ broadcastRecords (configOf n t d own day) (now (payload .entry)) (now (records .entry)) (now (out .entry)) ⌝ }
+    ensures { λ _. ⌜ now (out .exit) ≡ broadcastOut (configOf n t d own day) (now (payload .entry)) (now (records .entry)) (now (out .entry)) ⌝ }
 {
     let config = Config { n, t, d, own, day };
     announcement_code(calls::broadcast(config, payload, records, out))
@@ -42,9 +42,9 @@ pub extern "C" fn mbrb_receive(
     records: &mut [u8],
     out: &mut [u8],
 ) -> u32
-    ensures { λ r. ⌜ r ≡ receivedCode (receive (table n t d own day) (now (bundle .entry)) (now (records .entry)) (now (out .entry))) ⌝ }
-    ensures { λ _. ⌜ now (records .exit) ≡ receiveRecords (table n t d own day) (now (bundle .entry)) (now (records .entry)) (now (out .entry)) ⌝ }
-    ensures { λ _. ⌜ now (out .exit) ≡ receiveOut (table n t d own day) (now (bundle .entry)) (now (records .entry)) (now (out .entry)) ⌝ }
+    ensures { λ r. ⌜ r ≡ receivedCode (receive (configOf n t d own day) (now (bundle .entry)) (now (records .entry)) (now (out .entry))) ⌝ }
+    ensures { λ _. ⌜ now (records .exit) ≡ receiveRecords (configOf n t d own day) (now (bundle .entry)) (now (records .entry)) (now (out .entry)) ⌝ }
+    ensures { λ _. ⌜ now (out .exit) ≡ receiveOut (configOf n t d own day) (now (bundle .entry)) (now (records .entry)) (now (out .entry)) ⌝ }
 {
     let config = Config { n, t, d, own, day };
     receipt_code(calls::receive(config, bundle, records, out))

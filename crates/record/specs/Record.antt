@@ -66,7 +66,7 @@ bytes r = words (r .head) (r .signers) (r .high) (r .low)
 unfoldable pub loaded : List ℕ → List ℕ
 loaded xs = cond (eqb (length xs) recordSize) xs (replicate recordSize 0)
 
--- a record that is sound but perhaps for its signers: its first word is a state and seven zero bytes
+-- the first word is a state and seven zero bytes
 abbrev pub Stated : Record → Type 0
 Stated r = (r .head ≡ 0) ⊎ ((r .head ≡ 0x100_0000_0000_0000) ⊎ (r .head ≡ 0x200_0000_0000_0000))
 

@@ -80,7 +80,7 @@ enum Found {
     Delivered(u32),
 }
 
-fn table(n: u8, own: u8) -> Config {
+fn config_of(n: u8, own: u8) -> Config {
     let (t, d) = ((n - 1) / 3, 0);
     Config {
         n,
@@ -122,10 +122,10 @@ fn record(config: &Config, sender: u8, found: Found, payload: &[u8; 16]) -> Vec<
     [&head[..], &set.to_be_bytes(), payload].concat()
 }
 
-/// Takings, one for each slot of the other senders: what they find, how many signers they bring, and what they answer.
-fn takings(name: &'static str, n: u8, found: Found, brought: u32, code: u32) -> Row {
+/// Bundles received, one for each slot of the other senders: what they find, how many signers they bring, and what is answered.
+fn receives(name: &'static str, n: u8, found: Found, brought: u32, code: u32) -> Row {
     let mut random = Random::new(1);
-    let config = table(n, 1);
+    let config = config_of(n, 1);
     let (mut calls, mut buffers) = (Vec::new(), Vec::new());
     while calls.len() < CALLS {
         let mut records = Vec::new();
@@ -154,14 +154,14 @@ fn takings(name: &'static str, n: u8, found: Found, brought: u32, code: u32) -> 
     }
 }
 
-/// Announcements, one for each node, with so many numbers used already.
-fn announcements(name: &'static str, n: u8, used: u8) -> Row {
+/// Payloads broadcast, one by each node, with so many numbers used already.
+fn broadcasts(name: &'static str, n: u8, used: u8) -> Row {
     let mut random = Random::new(2);
     let (mut calls, mut buffers) = (Vec::new(), Vec::new());
     while calls.len() < CALLS {
         let mut records = Vec::new();
         for own in 0..n {
-            let config = table(n, own);
+            let config = config_of(n, own);
             for seq in 0..SLOTS {
                 let found = if seq < used {
                     Found::Held(1)
@@ -190,27 +190,27 @@ fn announcements(name: &'static str, n: u8, used: u8) -> Row {
 
 fn rows() -> Vec<Row> {
     let rows_of = |n| {
-        let quorum = table(n, 1).quorum();
+        let quorum = config_of(n, 1).quorum();
         [
-            takings("taking: kept", n, Found::Held(2), 1, 100),
-            takings("taking: signed", n, Found::Empty, 1, 101),
-            takings(
+            receives("taking: kept", n, Found::Held(2), 1, 100),
+            receives("taking: signed", n, Found::Empty, 1, 101),
+            receives(
                 "taking: delivered",
                 n,
                 Found::Held(quorum - 1),
                 quorum - 1,
                 102,
             ),
-            takings("taking: 22", n, Found::Delivered(quorum), quorum, 22),
-            announcements("announcing: fresh day", n, 0),
-            announcements("announcing: number 15", n, 15),
+            receives("taking: 22", n, Found::Delivered(quorum), quorum, 22),
+            broadcasts("announcing: fresh day", n, 0),
+            broadcasts("announcing: number 15", n, 15),
         ]
     };
     [4, 64].into_iter().flat_map(rows_of).collect()
 }
 
 impl Row {
-    fn announces(&self) -> bool {
+    fn broadcasts(&self) -> bool {
         self.code >= 200
     }
 
@@ -242,7 +242,7 @@ impl Row {
                 }
             };
         }
-        match (side, self.announces()) {
+        match (side, self.broadcasts()) {
             (Side::Proved, true) => each!(host::broadcast),
             (Side::Proved, false) => each!(host::receive),
             (Side::Reference, true) => each!(by_numbers!(reference_broadcast)),
@@ -284,7 +284,7 @@ impl Row {
 
     /// Instructions of a call, counted in a run of this program that makes the row's calls once.
     fn instructions(&self, number: usize, side: Side) -> Option<f64> {
-        let (who, function) = match (side, self.announces()) {
+        let (who, function) = match (side, self.broadcasts()) {
             (Side::Proved, true) => ("proved", "mbrb_broadcast"),
             (Side::Proved, false) => ("proved", "mbrb_receive"),
             (Side::Reference, true) => ("reference", "reference_broadcast"),

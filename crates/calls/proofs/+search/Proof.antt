@@ -9,7 +9,7 @@ use Rattle.config.specs.declared.Config.{Config}
 use Rattle.config.specs.Config.{recordSize}
 use Rattle.record.specs.Record.{bytes, wellFormed}
 use Rattle.record.proofs.Words.{well-formed-by}
-use Rattle.calls.specs.Settled.{Table, scanned}
+use Rattle.calls.specs.Settled.{SetsOf, scanned}
 use Rattle.calls.proofs.Found.{scan-none, scan-free, scan-malformed, scan-next, found-at, found-none, found-malformed}
 use Prim.Native.Nat.{ℕ, _-_, _/_, _≤_, _<_}
 use borrow.Author.Needs.{needs}
@@ -53,7 +53,7 @@ first-known t c = c .get .ensures
 blank-known : (t : ℕ) (c : search-lts.After-is-blank (claims t) (search-at t) search′.Post) → c .is-blank .result ≡ blank (take recordSize (c .before .before .before .before .args .rest .now))
 blank-known t c = c .is-blank .ensures ∙ ap blank (first-known t (c .before))
 
-sound-known : (t : ℕ) (c : search-lts.After-well-formed-by (claims t) (search-at t) search′.Post) (w : Config) → Table w (c .before .before .before .before .before .before .args .all) (c .before .before .before .before .before .before .args .quorum) (c .before .before .before .before .before .before .args .ours)
+sound-known : (t : ℕ) (c : search-lts.After-well-formed-by (claims t) (search-at t) search′.Post) (w : Config) → SetsOf w (c .before .before .before .before .before .before .args .all) (c .before .before .before .before .before .before .args .quorum) (c .before .before .before .before .before .before .args .ours)
     → c .well-formed-by .result ≡ wellFormed w (w .own) (take recordSize (c .before .before .before .before .before .before .args .rest .now))
 sound-known t c w g =
     c .well-formed-by .ensures

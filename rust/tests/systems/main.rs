@@ -19,7 +19,7 @@ use lists::{list, Rules, LAWFUL};
 use mbrb::setting;
 use std::time::Instant;
 use tally::Tally;
-use trace::{Step, System, KEPT};
+use trace::{Call, Fields, Slot, Step, System, ANNOUNCED, DELIVERED, KEPT, SIGNED};
 
 fn first_seed() -> u64 {
     setting("MBRB_SEED", 1)
@@ -74,6 +74,69 @@ fn no_violation_in_100_000_lists() {
     println!("{tally}");
     println!("no violation, {:.1?}", started.elapsed());
     tally.assert_not_vacuous();
+}
+
+/// A list written by hand, of nodes 0 and 1 of four, of which 3 is faulty: the steps need not be what the functions would answer.
+fn broken_by(steps: &[Step]) -> Vec<Conclusion> {
+    let system = System {
+        n: 4,
+        t: 1,
+        d: 0,
+        day: 7,
+        faulty: 1 << 3,
+    };
+    let history = History::of(&system, steps);
+    let found = demand3::broken_safety(&system, &history);
+    found.iter().map(|violation| violation.conclusion).collect()
+}
+
+/// A step at a node about number 0 of a sender, with a payload of sixteen times `text`.
+fn step(node: u8, sender: u8, text: u8, code: u32) -> Step {
+    let payload = [text; 16];
+    let slot = Slot {
+        day: 7,
+        sender,
+        seq: 0,
+    };
+    let bundle = Fields {
+        slot,
+        signers: 1 << sender,
+        payload,
+    }
+    .bundle()
+    .to_vec();
+    let call = match code {
+        ANNOUNCED.. => Call::Broadcast {
+            payload: payload.to_vec(),
+        },
+        _ => Call::Receive {
+            bundle: bundle.clone(),
+        },
+    };
+    Step {
+        node,
+        call,
+        code,
+        out: bundle,
+    }
+}
+
+#[test]
+fn each_safety_conclusion_is_seen_to_break() {
+    use Conclusion::{Agreement, Once, Single, Twice, Validity};
+    let announced = || step(0, 0, b'a', ANNOUNCED);
+    assert_eq!(broken_by(&[announced(), step(1, 0, b'a', DELIVERED)]), []);
+    let two_payloads = [step(0, 3, b'a', DELIVERED), step(1, 3, b'b', DELIVERED)];
+    assert_eq!(broken_by(&two_payloads), [Agreement]);
+    let delivered = || step(1, 3, b'a', DELIVERED);
+    assert_eq!(broken_by(&[delivered(), delivered()]), [Once]);
+    assert_eq!(broken_by(&[step(1, 0, b'a', DELIVERED)]), [Validity]);
+    let another = [announced(), step(1, 0, b'b', DELIVERED)];
+    assert_eq!(broken_by(&another), [Validity]);
+    assert_eq!(broken_by(&[announced(), announced()]), [Single]);
+    let signed = || step(1, 3, b'a', SIGNED);
+    assert_eq!(broken_by(&[signed(), signed()]), []);
+    assert_eq!(broken_by(&[signed(), signed(), signed()]), [Twice]);
 }
 
 /// Tables that stay good with t - 2 in place of t, which makes the quorum smaller by one.

@@ -93,6 +93,7 @@ impl Tally {
     }
 
     pub fn assert_not_vacuous(&self) {
+        assert!(self.lists >= 1000, "{} lists show nothing", self.lists);
         for (what, count, in_a_hundred) in self.counts() {
             assert!(count >= self.lists * in_a_hundred / 100, "{count} {what}");
         }

@@ -1,0 +1,158 @@
+/* Every code of include/mbrb.h, provoked once: its number and name as the header has them, and what the call gave.
+ *
+ * Four units, of which one may be faulty; we are unit 1, on day 7. A quorum is 3. Each call starts from the records that its line needs.
+ */
+#include "mbrb.h"
+
+#include <inttypes.h>
+#include <stdio.h>
+#include <string.h>
+
+#define UNITS 4
+
+static uint8_t records[MBRB_RECORDS_SIZE(UNITS)];
+static uint8_t bundle[MBRB_BUNDLE_SIZE];
+static uint8_t body[MBRB_BODY_SIZE];
+static uint8_t out[MBRB_BUNDLE_SIZE];
+static int differ;
+
+static void told(const char *name, uint32_t expected, uint32_t code)
+{
+    printf("%3" PRIu32 " %s\n", code, name);
+    if (code != expected) {
+        printf("    the header has %" PRIu32 "\n", expected);
+        differ = 1;
+    }
+}
+
+#define TOLD(name, call) told(#name, name, call)
+
+/* The calls with lengths that may be wrong. */
+static uint32_t announce_with(uint8_t own, size_t body_len, size_t records_len, size_t out_len)
+{
+    return mbrb_broadcast(UNITS, 1, 0, own, 7, body, body_len, records, records_len, out, out_len);
+}
+
+static uint32_t take_with(uint8_t own, size_t bundle_len, size_t records_len, size_t out_len)
+{
+    return mbrb_receive(UNITS, 1, 0, own, 7, bundle, bundle_len, records, records_len, out, out_len);
+}
+
+static uint32_t announce(void)
+{
+    return announce_with(1, sizeof body, sizeof records, sizeof out);
+}
+
+static uint32_t take(void)
+{
+    return take_with(1, sizeof bundle, sizeof records, sizeof out);
+}
+
+/* A bundle of sender 0, number 0, with these signers and a body of sixteen times `text`. */
+static void bring(unsigned signers, char text)
+{
+    memset(bundle, 0, sizeof bundle);
+    bundle[MBRB_DAY_AT + 3] = 7;
+    bundle[MBRB_SIGNERS_AT + 7] = (uint8_t)signers;
+    memset(bundle + MBRB_BODY_AT, text, MBRB_BODY_SIZE);
+}
+
+/* The same with one byte changed. */
+static void bring_with(size_t at, uint8_t value)
+{
+    bring(1, 'a');
+    bundle[at] = value;
+}
+
+static void open_day(void)
+{
+    memset(records, 0, sizeof records);
+}
+
+static void refused_from_the_input(void)
+{
+    TOLD(MBRB_BAD_TABLE, announce_with(UNITS, sizeof body, sizeof records, sizeof out));
+    TOLD(MBRB_BAD_TABLE, take_with(UNITS, sizeof bundle, sizeof records, sizeof out));
+    TOLD(MBRB_BUNDLE_LENGTH, take_with(1, 31, sizeof records, sizeof out));
+    bring_with(6, 1);
+    TOLD(MBRB_RESERVED_BYTES, take());
+    bring_with(MBRB_DAY_AT + 3, 8);
+    TOLD(MBRB_OTHER_DAY, take());
+    bring_with(MBRB_SENDER_AT, UNITS);
+    TOLD(MBRB_SENDER_RANGE, take());
+    bring_with(MBRB_NUMBER_AT, MBRB_NUMBERS);
+    TOLD(MBRB_NUMBER_RANGE, take());
+    bring(1u << UNITS | 1, 'a');
+    TOLD(MBRB_SIGNER_RANGE, take());
+    bring(4, 'a');
+    TOLD(MBRB_SENDER_UNSIGNED, take());
+    TOLD(MBRB_BODY_LENGTH, announce_with(1, 15, sizeof records, sizeof out));
+    TOLD(MBRB_OUT_LENGTH, announce_with(1, sizeof body, sizeof records, 31));
+    bring(1, 'a');
+    TOLD(MBRB_OUT_LENGTH, take_with(1, sizeof bundle, sizeof records, 31));
+}
+
+static void refused_from_the_state(void)
+{
+    TOLD(MBRB_RECORDS_LENGTH, announce_with(1, sizeof body, sizeof records - 1, sizeof out));
+    TOLD(MBRB_RECORDS_LENGTH, take_with(1, sizeof bundle, sizeof records - 1, sizeof out));
+    memset(records, 0xff, sizeof records);
+    TOLD(MBRB_UNSOUND_RECORD, announce());
+    TOLD(MBRB_UNSOUND_RECORD, take());
+    open_day();
+    bring(1 | 2, 'a');
+    TOLD(MBRB_OWN_SIGNATURE_UNKNOWN, take());
+    bring(1, 'a');
+    take();
+    bring(1, 'b');
+    TOLD(MBRB_OTHER_BODY, take());
+    bring(1 | 4, 'a');
+    take();
+    TOLD(MBRB_ALREADY_DELIVERED, take());
+    for (int number = 0; number < MBRB_NUMBERS; number++)
+        announce();
+    TOLD(MBRB_NO_FREE_NUMBER, announce());
+}
+
+static void done(void)
+{
+    open_day();
+    TOLD(MBRB_ANNOUNCED(0), announce());
+    for (int number = 1; number < MBRB_NUMBERS - 1; number++)
+        announce();
+    TOLD(MBRB_ANNOUNCED(15), announce());
+    bring(1, 'a');
+    TOLD(MBRB_SIGNED, take());
+    TOLD(MBRB_KEPT, take());
+    bring(1 | 8, 'a');
+    TOLD(MBRB_DELIVERED, take());
+    /* t comes before d: with 3 units and d = 1 the table is good, with t = 1 it is not. */
+    open_day();
+    TOLD(MBRB_ANNOUNCED(0), mbrb_broadcast(3, 0, 1, 1, 7, body, sizeof body, records, MBRB_RECORDS_SIZE(3), out, sizeof out));
+    TOLD(MBRB_BAD_TABLE, mbrb_broadcast(3, 1, 0, 1, 7, body, sizeof body, records, MBRB_RECORDS_SIZE(3), out, sizeof out));
+}
+
+/* What the last delivery left, read by the header's places. */
+static void places(void)
+{
+    const uint8_t *record = records + MBRB_RECORD_AT(0, 0);
+
+    open_day();
+    bring(1 | 4, 'a');
+    take();
+    printf("record %d %d %c, bundle %d %d %d %d %c, next %d\n", record[0] == MBRB_RECORD_DELIVERED, record[MBRB_SIGNERS_AT + 7],
+           record[MBRB_BODY_AT], out[MBRB_DAY_AT + 3], out[MBRB_SENDER_AT], out[MBRB_NUMBER_AT], out[MBRB_SIGNERS_AT + 7],
+           out[MBRB_BODY_AT], records[MBRB_RECORD_AT(0, 1)] == MBRB_RECORD_EMPTY);
+    printf("announced %d", MBRB_IS_ANNOUNCED(announce()));
+    printf(", record %d at %d of %d, of %d units at most\n", records[MBRB_RECORD_AT(1, 0)] == MBRB_RECORD_HELD,
+           (int)MBRB_RECORD_AT(1, 0), (int)sizeof records, MBRB_UNITS_MAX);
+}
+
+int main(void)
+{
+    refused_from_the_input();
+    refused_from_the_state();
+    done();
+    places();
+    return differ;
+}
