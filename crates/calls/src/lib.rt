@@ -198,7 +198,7 @@ const MALFORMED: u8 = config::SLOTS + 1;
 
 // The number of the first record that is empty in `rest`, the last of our sixteen, if all before it are
 // sound. It looks at one and hands the rest to itself. The answer is a number, and the rest a part of its
-// own, since what a call hands over in memory would be copied, and waited for, at each of the sixteen.
+// own: an enum, or the slice as it came, would be copied in memory at each of the sixteen.
 fn search(all: u64, quorum: u32, ours: u64, rest: &[u8]) -> u8
     requires { ⌜ length (now rest) % recordSize ≡ 0 ⌝ }
     requires { ⌜ length (now rest) ≤ recordSize * slots ⌝ }

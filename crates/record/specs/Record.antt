@@ -70,7 +70,8 @@ loaded xs = cond (eqb (length xs) recordSize) xs (replicate recordSize 0)
 abbrev pub Stated : Record → Type 0
 Stated r = (r .head ≡ 0) ⊎ ((r .head ≡ 0x100_0000_0000_0000) ⊎ (r .head ≡ 0x200_0000_0000_0000))
 
--- soundness against sets and a quorum that the caller has: all nodes, our own, the sender. With those of a table and a sender it is `wellFormed`.
+-- soundness as a program tests it, against sets and a quorum that it has: all nodes, our own, the sender. A reader may pass it over: with those of a
+-- table and a sender it is `wellFormed` (`well-formed-by` in proofs/Words.antt).
 unfoldable pub wellFormedBy : ℕ → ℕ → ℕ → ℕ → Record → Bool
 wellFormedBy all q own sender r =
     cond (eqb (r .head) 0) (blank (bytes r))

@@ -3,7 +3,7 @@
 // A bundle and a record keep the nodes that signed a payload as such a word. Every function is
 // defined for every argument; a node number of 64 or more has no bit, so no set has it.
 ghost use mathlib.Core.Path.{_≡_};
-ghost use Rattle.signers.specs.Signers.{member as isMember, insert as inserted, union as united, size as sized, meets as isMet, below as allBelow, within as isWithin};
+ghost use Rattle.signers.specs.Signers.{member as isMember, insert as inserted, union as united, size as sized, meets as isMet, below as allBelow};
 
 // Whether `node` is in `set`.
 pub fn member(set: u64, node: u8) -> bool
@@ -57,11 +57,4 @@ pub fn below(n: u8) -> u64
         return 0xffff_ffff_ffff_ffff;
     }
     0xffff_ffff_ffff_ffff >> (64 - n)
-}
-
-// Whether no node of `set` is `n` or above.
-pub fn within(set: u64, n: u8) -> bool
-    ensures { λ r. ⌜ r ≡ isWithin set n ⌝ }
-{
-    set <= below(n)
 }
