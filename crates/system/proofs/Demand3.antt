@@ -28,7 +28,7 @@ use Rattle.system.proofs.Shared.{quorumOf, bundleIn}
 use Rattle.system.proofs.Matches.{Match}
 use Rattle.system.proofs.Tests.{asked, delivers-in, delivers-any, delivers-forth, delivers-back, announces-in, announces-any, announces-forth, announces-back, reaches-forth, sends-forth, sends-back, sends-bundled}
 use Rattle.system.proofs.Ranges.{InRange, delivers-range, announces-range, sends-range}
-use Rattle.system.proofs.Slots.{acts, AllMatched, lawful-matched, lawful-acts}
+use Rattle.system.proofs.Slots.{acts, AllMatched, Orderly, assumed-orderly, order-matched, lawful-acts}
 
 -- ---- nearly all of the correct nodes, on calls and on values
 
@@ -62,7 +62,7 @@ module _ (s : System) where
 
 -- ---- one slot in range
 
-module _ (theorem : OneSlotHolds) (s : System) (list : Trace Call) (assumed : Assumed s list) (sender seq : ℕ) (range : InRange s sender seq) where
+module _ (s : System) (list : Trace Call) (orderly : Orderly s list) (sender seq : ℕ) (range : InRange s sender seq) where
   -- the quorum, the acts in the slot, and that each call matches its act
   abbrev pub q : ℕ
   q = quorumOf s
@@ -71,28 +71,7 @@ module _ (theorem : OneSlotHolds) (s : System) (list : Trace Call) (assumed : As
   happened = acts s sender seq list
 
   matched : AllMatched s sender seq list
-  matched = lawful-matched s sender seq (range .0) (range .1) (assumed .configured) (assumed .dated) list (assumed .lawful)
-
-  -- the table's quorum is what the argument asks for
-  quorum-fits : Quorum (s .shared .n) (s .shared .t) (s .shared .d) q
-  unfolding config
-  quorum-fits =
-      record {
-        fits = good-says (config s 0) (assumed .configured) .most;
-        intersects = quorum-intersects (config s 0) (assumed .configured);
-        reachable = quorum-reachable (config s 0) (assumed .configured);
-      }
-
-  values : one-slot.Agreement (s .shared .n) q sender (s .faulty) (s .shared .d) happened
-      × one-slot.Validity (s .shared .n) q sender (s .faulty) (s .shared .d) happened
-      × one-slot.Once (s .shared .n) q sender (s .faulty) (s .shared .d) happened
-      × one-slot.Twice (s .shared .n) q sender (s .faulty) (s .shared .d) happened
-      × one-slot.Single (s .shared .n) q sender (s .faulty) (s .shared .d) happened
-      × (one-slot.Reached (s .shared .n) q sender (s .faulty) (s .shared .d) happened
-      → one-slot.Delivery (s .shared .n) q sender (s .faulty) (s .shared .d) happened)
-  values =
-      theorem (s .shared .n) (s .shared .t) (s .shared .d) q sender (s .faulty) happened quorum-fits (assumed .few)
-      (lawful-acts s sender seq (range .0) (range .1) (assumed .configured) (assumed .dated) list (assumed .lawful))
+  matched = order-matched s sender seq (range .0) (range .1) (orderly .configured) (orderly .dated) list (orderly .ordered)
 
   -- a call that passes a test comes to an act that passes one; and the other way
   abbrev Comes : (ℕ → Call → List ℕ → Bool) → (ℕ → Act → Record → Bool) → ℕ → Type 0
@@ -133,60 +112,83 @@ module _ (theorem : OneSlotHolds) (s : System) (list : Trace Call) (assumed : As
   delivered-back content u =
       back (delivers s sender seq content) (deliveringThis q content) u (λ call records r. delivers-back s sender seq u call records r content)
 
-  announced-forth : (content : List ℕ) (u : ℕ) → u ≡ sender → ever s (announces s seq content) list u ≡ true
-      → somewhere q (announcingThis q content) happened u ≡ true
-  announced-forth content u same =
-      forth (announces s seq content) (announcingThis q content) u (λ call records r. announces-forth s sender seq u call records r content same)
+  -- what the theorem on values says of the slot
+  module _ (theorem : OneSlotHolds) (assumed : Assumed s list) where
+    -- the table's quorum is what the argument asks for
+    quorum-fits : Quorum (s .shared .n) (s .shared .t) (s .shared .d) q
+    unfolding config
+    quorum-fits =
+        record {
+          fits = good-says (config s 0) (assumed .configured) .most;
+          intersects = quorum-intersects (config s 0) (assumed .configured);
+          reachable = quorum-reachable (config s 0) (assumed .configured);
+        }
 
-  agreement-in : (u v : ℕ) (first second : List ℕ) → correct s u ≡ true → correct s v ≡ true
-      → ever s (delivers s sender seq first) list u ≡ true → ever s (delivers s sender seq second) list v ≡ true → first ≡ second
-  unfolding correct
-  agreement-in u v first second hu hv e f = values .0 u v first second hu hv (delivered-forth first u e) (delivered-forth second v f)
+    values : one-slot.Agreement (s .shared .n) q sender (s .faulty) (s .shared .d) happened
+        × one-slot.Validity (s .shared .n) q sender (s .faulty) (s .shared .d) happened
+        × one-slot.Once (s .shared .n) q sender (s .faulty) (s .shared .d) happened
+        × one-slot.Twice (s .shared .n) q sender (s .faulty) (s .shared .d) happened
+        × one-slot.Single (s .shared .n) q sender (s .faulty) (s .shared .d) happened
+        × (one-slot.Reached (s .shared .n) q sender (s .faulty) (s .shared .d) happened
+        → one-slot.Delivery (s .shared .n) q sender (s .faulty) (s .shared .d) happened)
+    values =
+        theorem (s .shared .n) (s .shared .t) (s .shared .d) q sender (s .faulty) happened quorum-fits (assumed .few)
+        (lawful-acts s sender seq (range .0) (range .1) (assumed .configured) (assumed .dated) list (assumed .lawful))
 
-  validity-in : (u : ℕ) (content : List ℕ) → correct s u ≡ true → correct s sender ≡ true → ever s (delivers s sender seq content) list u ≡ true
-      → ever s (announces s seq content) list sender ≡ true
-  unfolding correct
-  validity-in u content hu hs e =
-      back (announces s seq content) (announcingThis q content) sender (λ call records r. announces-back s sender seq sender call records r content)
-      (values .1 u content hu hs (delivered-forth content u e))
+    announced-forth : (content : List ℕ) (u : ℕ) → u ≡ sender → ever s (announces s seq content) list u ≡ true
+        → somewhere q (announcingThis q content) happened u ≡ true
+    announced-forth content u same =
+        forth (announces s seq content) (announcingThis q content) u (λ call records r. announces-forth s sender seq u call records r content same)
 
-  once-in : (u : ℕ) → times s (deliversIn s sender seq) list u ≤ 1
-  once-in u = le-trans (fewer (deliversIn s sender seq) (delivering q) u (λ call records r. delivers-any s sender seq u call records r)) (values .2 u)
+    agreement-in : (u v : ℕ) (first second : List ℕ) → correct s u ≡ true → correct s v ≡ true
+        → ever s (delivers s sender seq first) list u ≡ true → ever s (delivers s sender seq second) list v ≡ true → first ≡ second
+    unfolding correct
+    agreement-in u v first second hu hv e f = values .0 u v first second hu hv (delivered-forth first u e) (delivered-forth second v f)
 
-  twice-in : (u : ℕ) → times s (sendsIn s sender seq) list u ≤ 2
-  twice-in u = le-trans (fewer (sendsIn s sender seq) (sending q) u (λ call records r. sends-forth s sender seq u call records r)) (values .3 u)
+    validity-in : (u : ℕ) (content : List ℕ) → correct s u ≡ true → correct s sender ≡ true → ever s (delivers s sender seq content) list u ≡ true
+        → ever s (announces s seq content) list sender ≡ true
+    unfolding correct
+    validity-in u content hu hs e =
+        back (announces s seq content) (announcingThis q content) sender (λ call records r. announces-back s sender seq sender call records r content)
+        (values .1 u content hu hs (delivered-forth content u e))
 
-  single-in : times s (announcesIn s seq) list sender ≤ 1
-  single-in =
-      le-trans (fewer (announcesIn s seq) (announcing q) sender (λ call records r. announces-any s sender seq sender call records r refl)) (values .4 sender)
+    once-in : (u : ℕ) → times s (deliversIn s sender seq) list u ≤ 1
+    once-in u = le-trans (fewer (deliversIn s sender seq) (delivering q) u (λ call records r. delivers-any s sender seq u call records r)) (values .2 u)
 
-  -- a bundle that was sent on values was sent by its bytes, and by its bytes it reached whom it reached on values
-  reached-in : Reached s list → one-slot.Reached (s .shared .n) q sender (s .faulty) (s .shared .d) happened
-  unfolding correct
-  reached-in reached u signers content hu e =
-      let b : Bundled (s .shared .n) sender signers content =
-      act-says (s .buffers) (recordsAfter s) (λ node. Empty) (next q) (act s sender seq) (Match s sender seq) (sendingThis q signers content) u
-      (λ call records r m. sends-bundled s sender seq u call records r signers content m) list matched e in
-      to-acts s (somewhere q (handed q signers content) happened)
-      (more s (ever s (reaches s (bundleIn s sender seq signers content)) list) (somewhere q (handed q signers content) happened)
-      (λ v hv. forth (reaches s (bundleIn s sender seq signers content)) (handed q signers content) v
-      (λ call records r. reaches-forth s sender seq v call records r signers content b))
-      (reached u (bundleIn s sender seq signers content) hu
-      (back (sendsThis s (bundleIn s sender seq signers content)) (sendingThis q signers content) u
-      (λ call records r. sends-back s sender seq u call records r signers content) e)))
+    twice-in : (u : ℕ) → times s (sendsIn s sender seq) list u ≤ 2
+    twice-in u = le-trans (fewer (sendsIn s sender seq) (sending q) u (λ call records r. sends-forth s sender seq u call records r)) (values .3 u)
 
-  delivery-in : Reached s list → (u : ℕ) (content : List ℕ) → correct s u ≡ true
-      → ((u ≡ sender) × (ever s (announces s seq content) list u ≡ true)) ⊎ (ever s (delivers s sender seq content) list u ≡ true)
-      → NearlyAll s (ever s (delivers s sender seq content) list)
-  unfolding correct
-  delivery-in reached u content hu why =
-      more s (somewhere q (deliveringThis q content) happened) (ever s (delivers s sender seq content) list) (λ v hv. delivered-back content v)
-      (to-calls s (somewhere q (deliveringThis q content) happened) (values .5 (reached-in reached) u content hu (on-values why)))
-    where
-      on-values : ((u ≡ sender) × (ever s (announces s seq content) list u ≡ true)) ⊎ (ever s (delivers s sender seq content) list u ≡ true)
-          → ((u ≡ sender) × (somewhere q (announcingThis q content) happened u ≡ true)) ⊎ (somewhere q (deliveringThis q content) happened u ≡ true)
-      on-values (inl x) = inl (x .0, announced-forth content u (x .0) (x .1))
-      on-values (inr x) = inr (delivered-forth content u x)
+    single-in : times s (announcesIn s seq) list sender ≤ 1
+    single-in =
+        le-trans (fewer (announcesIn s seq) (announcing q) sender (λ call records r. announces-any s sender seq sender call records r refl)) (values .4 sender)
+
+    -- a bundle that was sent on values was sent by its bytes, and by its bytes it reached whom it reached on values
+    reached-in : Reached s list → one-slot.Reached (s .shared .n) q sender (s .faulty) (s .shared .d) happened
+    unfolding correct
+    reached-in reached u signers content hu e =
+        let b : Bundled (s .shared .n) sender signers content =
+        act-says (s .buffers) (recordsAfter s) (λ node. Empty) (next q) (act s sender seq) (Match s sender seq) (sendingThis q signers content) u
+        (λ call records r m. sends-bundled s sender seq u call records r signers content m) list matched e in
+        to-acts s (somewhere q (handed q signers content) happened)
+        (more s (ever s (reaches s (bundleIn s sender seq signers content)) list) (somewhere q (handed q signers content) happened)
+        (λ v hv. forth (reaches s (bundleIn s sender seq signers content)) (handed q signers content) v
+        (λ call records r. reaches-forth s sender seq v call records r signers content b))
+        (reached u (bundleIn s sender seq signers content) hu
+        (back (sendsThis s (bundleIn s sender seq signers content)) (sendingThis q signers content) u
+        (λ call records r. sends-back s sender seq u call records r signers content) e)))
+
+    delivery-in : Reached s list → (u : ℕ) (content : List ℕ) → correct s u ≡ true
+        → ((u ≡ sender) × (ever s (announces s seq content) list u ≡ true)) ⊎ (ever s (delivers s sender seq content) list u ≡ true)
+        → NearlyAll s (ever s (delivers s sender seq content) list)
+    unfolding correct
+    delivery-in reached u content hu why =
+        more s (somewhere q (deliveringThis q content) happened) (ever s (delivers s sender seq content) list) (λ v hv. delivered-back content v)
+        (to-calls s (somewhere q (deliveringThis q content) happened) (values .5 (reached-in reached) u content hu (on-values why)))
+      where
+        on-values : ((u ≡ sender) × (ever s (announces s seq content) list u ≡ true)) ⊎ (ever s (delivers s sender seq content) list u ≡ true)
+            → ((u ≡ sender) × (somewhere q (announcingThis q content) happened u ≡ true)) ⊎ (somewhere q (deliveringThis q content) happened u ≡ true)
+        on-values (inl x) = inl (x .0, announced-forth content u (x .0) (x .1))
+        on-values (inr x) = inr (delivered-forth content u x)
 
 -- ---- every slot
 
@@ -219,19 +221,20 @@ module _ (s : System) (list : Trace Call) (u sender seq : ℕ) where
 -- Demand 3 holds if the theorem on values does.
 pub demand3-from : OneSlotHolds → Demand3
 demand3-from theorem s list assumed =
+    let orderly = assumed-orderly s list assumed in
     record {
       agreement = λ u v sender seq first second hu hv e f.
-          agreement-in theorem s list assumed sender seq (delivered-range s list u sender seq first e) u v first second hu hv e f;
+          agreement-in s list orderly sender seq (delivered-range s list u sender seq first e) theorem assumed u v first second hu hv e f;
       once = λ u sender seq hu.
-          bounded s list u sender seq (deliversIn s sender seq) 1 (delivers-range s u sender seq) (λ range. once-in theorem s list assumed sender seq range u);
+          bounded s list u sender seq (deliversIn s sender seq) 1 (delivers-range s u sender seq) (λ range. once-in s list orderly sender seq range theorem assumed u);
       validity = λ u sender seq content hu hs e.
-          validity-in theorem s list assumed sender seq (delivered-range s list u sender seq content e) u content hu hs e;
+          validity-in s list orderly sender seq (delivered-range s list u sender seq content e) theorem assumed u content hu hs e;
       single = λ u seq hu.
-          bounded s list u u seq (announcesIn s seq) 1 (announces-range s u u seq refl) (λ range. single-in theorem s list assumed u seq range);
+          bounded s list u u seq (announcesIn s seq) 1 (announces-range s u u seq refl) (λ range. single-in s list orderly u seq range theorem assumed);
       twice = λ u sender seq hu.
-          bounded s list u sender seq (sendsIn s sender seq) 2 (sends-range s u sender seq) (λ range. twice-in theorem s list assumed sender seq range u);
+          bounded s list u sender seq (sendsIn s sender seq) 2 (sends-range s u sender seq) (λ range. twice-in s list orderly sender seq range theorem assumed u);
       delivery = λ reached u sender seq content hu why.
-          delivery-in theorem s list assumed sender seq (active s list u sender seq content why) reached u content hu why;
+          delivery-in s list orderly sender seq (active s list u sender seq content why) theorem assumed reached u content hu why;
     }
 
 -- Demand 3.

@@ -81,7 +81,7 @@ Match s sender seq u call records r (some a) = Played s sender seq u call record
 
 -- ---- the calls one by one
 
-open-zeros : (w : Config) (records : List ℕ) → good w ≡ true → length records ≡ recordsSize w → openRecords w records ≡ replicate (recordsSize w) 0
+pub open-zeros : (w : Config) (records : List ℕ) → good w ≡ true → length records ≡ recordsSize w → openRecords w records ≡ replicate (recordsSize w) 0
 unfolding openRecords opened openReasons
 open-zeros w records g size =
     ap (λ (o : Outcome (List ℕ)). after o (λ zeros. zeros) records)

@@ -18,7 +18,7 @@ use Rattle.protocol.specs.Trace as trace
 use Rattle.protocol.specs.OneSlot as one-slot
 use Rattle.protocol.specs.OneSlot.{Act, next, record-of, some as somewhere, signing}
 use Rattle.calls.proofs.Taking.{read-says}
-use Rattle.system.specs.Demand3.{Call, Open, Broadcast, Receive, System, config, correct, opens, recordsAfter, signs, buffer, ever, called, Unforged, Lawful}
+use Rattle.system.specs.Demand3.{Call, Open, Broadcast, Receive, System, config, correct, opens, recordsAfter, signs, buffer, ever, called, Unforged, Lawful, Assumed}
 use Rattle.system.proofs.Projection as projection
 use Rattle.system.proofs.Projection.{project, Matched, state-project, ever-forth}
 use Rattle.system.proofs.Views.{act, View, view, opening, announced-here, announced-elsewhere, announced-not, handed-here, handed-elsewhere, handed-short, handed-unread}
@@ -30,6 +30,30 @@ use Rattle.system.proofs.Tests.{signs-forth}
 pub correct-below : (s : System) (u : ℕ) → correct s u ≡ true → u < s .shared .n
 unfolding correct
 correct-below s u e = ltb-true u (s .shared .n) (and-eq-true-iff (ltb u (s .shared .n)) (not (s .faulty u)) .0 e .0)
+
+-- A list whose records are kept, whoever signed what: the table is good, and each call is at a node of it, in a buffer of the right length that the
+-- node opens first and once. It is what demand 3 assumes but for faults and signatures.
+abbrev pub InOrder : System → Trace Call → Type 0
+InOrder s start = Unit
+InOrder s (earlier then u calls call) =
+    InOrder s earlier
+    × (u < s .shared .n)
+    × (length (s .buffers u) ≡ recordsSize (config s u))
+    × (opens s u call (buffer s earlier u) ≡ not (called s earlier u))
+
+pub record Orderly (s : System) (list : Trace Call) : Type 0 where
+  pub configured : good (config s 0) ≡ true
+  pub dated : s .shared .day < 2 ^ 32
+  pub ordered : InOrder s list
+
+lawful-order : (s : System) (list : Trace Call) → Lawful s list → InOrder s list
+lawful-order s start lawful = tt
+lawful-order s (earlier then u calls call) lawful =
+    (lawful-order s earlier (lawful .0), correct-below s u (lawful .1), lawful .2, lawful .3)
+
+pub assumed-orderly : (s : System) (list : Trace Call) → Assumed s list → Orderly s list
+assumed-orderly s list assumed =
+    record { configured = assumed .configured; dated = assumed .dated; ordered = lawful-order s list (assumed .lawful) }
 
 module _ (s : System) (sender seq : ℕ) where
   -- the acts in the slot, and the record that they leave at a node
@@ -110,23 +134,23 @@ module _ (s : System) (sender seq : ℕ) where
   ready earlier v (Receive bundle out) size first keeps = keeps .opened (not-false (called s earlier v) (sym first))
 
   module _ (hs : sender < s .shared .n) (hk : seq < slots) (g : good (config s 0) ≡ true) (dated : s .shared .day < 2 ^ 32) where
-    -- each call of a lawful list matches its act
-    lawful-keeps : (list : Trace Call) → Lawful s list → AllMatched list × ((u : ℕ) → Keeps list u)
-    lawful-keeps start lawful = (tt, keeps-start)
-    lawful-keeps (earlier then v calls call) lawful =
-        let before = lawful-keeps earlier (lawful .0) in
+    -- each call of a list in order matches its act
+    order-keeps : (list : Trace Call) → InOrder s list → AllMatched list × ((u : ℕ) → Keeps list u)
+    order-keeps start order = (tt, keeps-start)
+    order-keeps (earlier then v calls call) order =
+        let before = order-keeps earlier (order .0) in
         let m =
-        matches s sender seq hs hk g dated v (correct-below s v (lawful .1)) call (buffer s earlier v) (recordOf earlier v)
-        (act s sender seq v call (buffer s earlier v)) (ready earlier v call (lawful .2) (lawful .3) (before .1 v))
+        matches s sender seq hs hk g dated v (order .1) call (buffer s earlier v) (recordOf earlier v)
+        (act s sender seq v call (buffer s earlier v)) (ready earlier v call (order .2) (order .3) (before .1 v))
         (view s sender seq v (buffer s earlier v) call) in
         ((before .0, m), keeps-step earlier v call (before .1) m)
 
-    pub lawful-matched : (list : Trace Call) → Lawful s list → AllMatched list
-    lawful-matched list lawful = lawful-keeps list lawful .0
+    pub order-matched : (list : Trace Call) → InOrder s list → AllMatched list
+    order-matched list order = order-keeps list order .0
 
     -- and at its end a node that was called has the record in its bytes
-    pub lawful-holds : (list : Trace Call) → Lawful s list → (u : ℕ) → called s list u ≡ true → Holds s sender seq u (buffer s list u) (recordOf list u)
-    lawful-holds list lawful u = lawful-keeps list lawful .1 u .opened
+    pub order-holds : (list : Trace Call) → InOrder s list → (u : ℕ) → called s list u ≡ true → Holds s sender seq u (buffer s list u) (recordOf list u)
+    order-holds list order u = order-keeps list order .1 u .opened
 
     -- the acts of a lawful list are lawful: a signature that a call may show was made by a call, and so by an act
     abbrev LawfulActs : Trace Act → Type 0
@@ -166,5 +190,5 @@ module _ (s : System) (sender seq : ℕ) where
         ever-forth (s .buffers) (recordsAfter s) (λ node. Empty) (next (quorumOf s)) (act s sender seq) (Match s sender seq)
         (signing (quorumOf s) content) u (signs s sender seq content)
         (λ other records r m h. signs-forth s sender seq u other records r hs hk g dated content m h)
-        earlier (lawful-matched earlier (lawful .0)))
+        earlier (order-matched earlier (lawful-order s earlier (lawful .0))))
         (view s sender seq v (buffer s earlier v) call)

@@ -1,0 +1,5 @@
+-- Laws of this crate that belong to no one function.
+pub mod Fields
+pub mod Values
+pub mod Written
+pub mod Spelled

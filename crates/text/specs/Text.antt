@@ -1,0 +1,126 @@
+-- Document 01, "The run program": fields and numbers of a text, read and written. A text is the list of its bytes, in ASCII.
+-- Assumes nothing.
+use mathlib.Core.Bool.{Bool, true, false, not, cond, _&&_, _||_}
+use mathlib.Core.List.{List, [], _∷_, _++_}
+use Prim.Native.Nat.{ℕ, zero, suc, _+_, _-_, _*_, _/_, _%_}
+use Prim.Native.Char.{code}
+use Prim.Native.String as string
+use Prim.Native.String.{String}
+use lib.Dec.{leb, ltb, eqb}
+use lib.ListN.{length, take, drop}
+use Rattle.text.specs.declared.Number.{Number}
+use Rattle.text.specs.declared.Number.the-variants.{Plain, NotPlain}
+use Rattle.text.specs.declared.Word.{Word}
+use Rattle.text.specs.declared.Word.the-variants.{Hex, NotHex}
+
+-- the bytes of a text that is written out here
+unfoldable pub ascii : String → List ℕ
+ascii string.[] = []
+ascii (string._∷_ c s) = code c ∷ ascii s
+
+abbrev pub lineFeed : ℕ
+lineFeed = 10
+
+abbrev pub space : ℕ
+space = 32
+
+-- ---- lines and fields
+
+-- a byte put before the first of some texts
+unfoldable pub onto : ℕ → List (List ℕ) → List (List ℕ)
+onto b [] = (b ∷ []) ∷ []
+onto b (line ∷ others) = (b ∷ line) ∷ others
+
+-- "Lines end with a line feed, the last one with or without."
+unfoldable pub lines : List ℕ → List (List ℕ)
+lines [] = []
+lines (b ∷ bs) = cond (eqb b lineFeed) ([] ∷ lines bs) (onto b (lines bs))
+
+-- how many bytes stand before the first that is b; all do if none is
+unfoldable pub before : ℕ → List ℕ → ℕ
+before b [] = 0
+before b (x ∷ xs) = cond (eqb x b) 0 (suc (before b xs))
+
+-- "Fields are separated by one space": the first field of a text, and what stands behind its space
+unfoldable pub first : List ℕ → List ℕ
+first xs = take (before space xs) xs
+
+unfoldable pub rest : List ℕ → List ℕ
+rest xs = drop (suc (before space xs)) xs
+
+-- what stands behind the first k fields
+unfoldable pub behind : ℕ → List ℕ → List ℕ
+behind zero xs = xs
+behind (suc k) xs = behind k (rest xs)
+
+-- the field behind the first k
+abbrev pub field : ℕ → List ℕ → List ℕ
+field k xs = first (behind k xs)
+
+-- ---- numbers
+
+-- the text has only bytes that pass a test
+unfoldable pub only : (ℕ → Bool) → List ℕ → Bool
+only test [] = true
+only test (x ∷ xs) = test x && only test xs
+
+-- the digits 0 to 9, and the lowercase hexadecimal ones, 0 to 9 and a to f
+unfoldable pub digit : ℕ → Bool
+digit b = leb 48 b && leb b 57
+
+unfoldable pub hexDigit : ℕ → Bool
+hexDigit b = digit b || (leb 97 b && leb b 102)
+
+-- what such a digit stands for
+unfoldable pub worth : ℕ → ℕ
+worth b = cond (leb b 57) (b - 48) (b - 87)
+
+-- the number that digits write behind a number that is there already
+unfoldable pub value : ℕ → ℕ → List ℕ → ℕ
+value base there [] = there
+value base there (x ∷ xs) = value base (there * base + worth x) xs
+
+unfoldable pub empty : List ℕ → Bool
+empty [] = true
+empty (x ∷ xs) = false
+
+-- "plain numbers are decimal, without sign or leading zeros"
+unfoldable pub plain : List ℕ → Bool
+plain [] = false
+plain (x ∷ xs) = only digit (x ∷ xs) && (not (eqb x 48) || empty xs)
+
+-- a plain number that fits
+unfoldable pub plainUpTo : ℕ → List ℕ → Bool
+plainUpTo limit xs = plain xs && leb (value 10 0 xs) limit
+
+-- the first field as a plain number up to a limit, with how many bytes it has
+unfoldable pub numberIn : ℕ → List ℕ → Number
+numberIn limit xs = cond (plainUpTo limit (first xs)) (Plain (value 10 0 (first xs)) (length (first xs))) NotPlain
+
+-- so many lowercase hexadecimal digits, and no more
+unfoldable pub hex : ℕ → List ℕ → Bool
+hex k xs = eqb (length xs) k && only hexDigit xs
+
+-- "16 .. lowercase hexadecimal digits": a 64-bit word
+unfoldable pub wordIn : List ℕ → Word
+wordIn xs = cond (hex 16 xs) (Hex (value 16 0 xs)) NotHex
+
+-- ---- writing
+
+-- the plain number that stands for x, in at most so many digits. Twenty are enough for 64 bits.
+unfoldable pub spelled : ℕ → ℕ → List ℕ
+spelled zero x = []
+spelled (suc k) x = cond (ltb x 10) ((48 + x) ∷ []) (spelled k (x / 10) ++ ((48 + x % 10) ∷ []))
+
+unfoldable pub decimal : ℕ → List ℕ
+decimal x = spelled 20 x
+
+-- a text written over a buffer from index `at` on, if there is room for the whole of it, and where it ends then
+unfoldable pub fits : ℕ → List ℕ → List ℕ → Bool
+fits at text out = leb (at + length text) (length out)
+
+unfoldable pub written : ℕ → List ℕ → List ℕ → List ℕ
+written at text out = cond (fits at text out) (take at out ++ (text ++ drop (at + length text) out)) out
+
+unfoldable pub end : ℕ → List ℕ → List ℕ → ℕ
+end at text out = cond (fits at text out) (at + length text) at
