@@ -1,11 +1,16 @@
-//! The proved calls beside another implementation of document 01.
+//! The proved calls and the proved run program beside another implementation of document 01.
 //!
 //! [`host`] calls the functions that the static library exports, as a C host does; [`reference`] is written from document 01 alone. The
-//! tests compare the two, and play whole systems through the exported functions.
+//! tests compare the two, and play whole systems through the exported functions. [`player`] is the run program over the reference, to be
+//! compared with the proved one on what [`runs`] writes.
+
+use std::path::PathBuf;
 
 pub mod host;
+pub mod player;
 pub mod random;
 pub mod reference;
+pub mod runs;
 
 /// A number that a test takes from the environment, or its usual one.
 pub fn setting(name: &str, usual: u64) -> u64 {
@@ -14,6 +19,19 @@ pub fn setting(name: &str, usual: u64) -> u64 {
     };
     text.parse()
         .unwrap_or_else(|_| panic!("{name} is not a number: {text}"))
+}
+
+/// Where the proved run program is: where `rt check play` puts it, unless `MBRB_PLAY` names another.
+pub fn program_under_test() -> PathBuf {
+    let built = concat!(env!("CARGO_MANIFEST_DIR"), "/../target/bin/play");
+    let path = std::env::var_os("MBRB_PLAY").unwrap_or_else(|| built.into());
+    let path = PathBuf::from(path);
+    assert!(
+        path.is_file(),
+        "{}: no such program, `rt check play` builds it",
+        path.display()
+    );
+    path
 }
 
 /// What the nodes of a system share but for `own`: document 01's table. It may hold any values: a call refuses one that is not good.

@@ -41,22 +41,22 @@ sound-length w sender r fine = image-length r (λ some. sound-bundled (w .n) sen
 
 -- ---- one record stored
 
--- what a call leaves: the buffer, or the buffer with one sound record stored
+-- what a call leaves: the buffer, or, at a node with a good table and a buffer of its length, the buffer with one sound record stored
 data Left (w : Config) (records : List ℕ) : List ℕ → Type 0 where
   same-left : {after : List ℕ} → records ≡ after → Left w records after
-  one-left : {after : List ℕ} (sender seq : ℕ) (r : Record) → sender < w .n → seq < slots → Sound (w .n) sender (quorum w) (w .own) r
-      → isDelivered (recordIn (recordAt w sender seq records)) ≡ false → after ≡ stored w sender seq (image r) records → Left w records after
+  one-left : {after : List ℕ} (sender seq : ℕ) (r : Record) → good w ≡ true → length records ≡ recordsSize w → sender < w .n → seq < slots
+      → Sound (w .n) sender (quorum w) (w .own) r → isDelivered (recordIn (recordAt w sender seq records)) ≡ false → after ≡ stored w sender seq (image r) records → Left w records after
 
-module _ (w : Config) (records : List ℕ) (g : good w ≡ true) (l : length records ≡ recordsSize w) where
+module _ (w : Config) (records : List ℕ) where
   left-length : (after : List ℕ) → Left w records after → length after ≡ length records
   left-length after (same-left e) = ap length (sym e)
-  left-length after (one-left sender seq r hs hk fine fresh e) =
+  left-length after (one-left sender seq r g l hs hk fine fresh e) =
       ap length e ∙ stored-length w g records l sender seq hs hk (image r) (sound-length w sender r fine)
 
   -- the record of a slot is the one stored, or is as before
   left-sound : (after : List ℕ) → Left w records after → AllSound w records → AllSound w after
   left-sound after (same-left e) all a b ha hb = subst (λ (xs : List ℕ). wellFormed w a (recordAt w a b xs) ≡ true) e (all a b ha hb)
-  left-sound after (one-left sender seq r hs hk fine fresh e) all a b ha hb = go (eqb a sender) refl (eqb b seq) refl
+  left-sound after (one-left sender seq r g l hs hk fine fresh e) all a b ha hb = go (eqb a sender) refl (eqb b seq) refl
     where
       long : length (image r) ≡ recordSize
       long = sound-length w sender r fine
@@ -79,7 +79,7 @@ module _ (w : Config) (records : List ℕ) (g : good w ≡ true) (l : length rec
   left-shown : (after : List ℕ) → Left w records after → (a b start : ℕ) → delivered w a b records ≡ done start
       → SameShown w a b after records
   left-shown after (same-left e) a b start d = subst (λ (xs : List ℕ). SameShown w a b xs records) e (refl, refl)
-  left-shown after (one-left sender seq r hs hk fine fresh e) a b start d =
+  left-shown after (one-left sender seq r g l hs hk fine fresh e) a b start d =
       let (ha, hb) = range-says w a b (delivered-says w a b records start d .1) in
       subst (λ (xs : List ℕ). SameShown w a b xs records) (sym e)
       (delivered-depends w a b (stored w sender seq (image r) records) records
@@ -99,7 +99,7 @@ module _ (w : Config) (content records out : List ℕ) where
       go (done seq) e =
           let ok = broadcast-done w content records out seq e in
           let g = good-says w (ok .configured) in
-          one-left (w .own) seq (announcedBy (w .own) content) (g .known) (ok .slot)
+          one-left (w .own) seq (announcedBy (w .own) content) (ok .configured) (ok .sized) (g .known) (ok .slot)
           (announced-sound (w .n) (quorum w) (w .own) content (g .known) (g .most) (ok .whole))
           (ap isDelivered (broadcast-follows w content records out seq e .0))
           (sym (broadcast-effect w content records out seq e .0))
@@ -138,8 +138,16 @@ module _ (w : Config) (bundle records out : List ℕ) where
       go (done turn) e (refused number) f = absurd (refused-not-done number turn (sym (receive-unread w bundle records out number f) ∙ e))
       go (done turn) e (done h) f =
           let ok = read-says w bundle h f in
-          one-left (h .sender) (h .seq) (turn .after) (ok .sender-known) (ok .slot) (receive-stores h f turn e .1)
-          (taken-fresh _ _ _ _ _ turn (receive-done w bundle records out h f turn e .2)) (receive-leaves h f turn e)
+          let (room, long, stepped, sound) = receive-done w bundle records out h f turn e in
+          one-left (h .sender) (h .seq) (turn .after) (ok .configured) long (ok .sender-known) (ok .slot) (receive-stores h f turn e .1)
+          (taken-fresh _ _ _ _ _ turn stepped) (receive-leaves h f turn e)
+
+-- whatever the table and the buffer, each leaves the buffer its length
+pub broadcast-length : (w : Config) (content records out : List ℕ) → length (broadcastRecords w content records out) ≡ length records
+broadcast-length w content records out = left-length w records _ (broadcast-left w content records out)
+
+pub receive-length : (w : Config) (bundle records out : List ℕ) → length (receiveRecords w bundle records out) ≡ length records
+receive-length w bundle records out = left-length w records _ (receive-left-one w bundle records out)
 
 -- ---- the claims
 
@@ -151,16 +159,15 @@ calls-keep-sound w records g l = (
         (ap (wellFormed w sender) (zeros-at w sender seq g hs hk ∙ empty-image) ∙ image-wellFormed w sender (good-says w g .most) Empty tt),
     rw (opened-done w records g l) (length-replicate {A = ℕ} (length records) 0),
   ),
-  λ content out all. let left = broadcast-left w content records out in (left-sound w records g l _ left all, left-length w records g l _ left),
-  λ bundle out all. let left = receive-left-one w bundle records out in (left-sound w records g l _ left all, left-length w records g l _ left),
+  λ content out all. (left-sound w records _ (broadcast-left w content records out) all, broadcast-length w content records out),
+  λ bundle out all. (left-sound w records _ (receive-left-one w bundle records out) all, receive-length w bundle records out),
 )
 
 pub shown-stays : ShownStays
-shown-stays w records sender seq start d =
-    let (g, range, l) = delivered-says w sender seq records start d in (
-      λ content out. left-shown w records g l _ (broadcast-left w content records out) sender seq start d,
-      λ bundle out. left-shown w records g l _ (receive-left-one w bundle records out) sender seq start d,
-    )
+shown-stays w records sender seq start d = (
+  λ content out. left-shown w records _ (broadcast-left w content records out) sender seq start d,
+  λ bundle out. left-shown w records _ (receive-left-one w bundle records out) sender seq start d,
+)
 
 -- a turn that delivers leaves a delivered record
 delivers-record : (own q signers : ℕ) (content : List ℕ) (r : Record) (turn : Turn) → update own q signers content r ≡ done turn
@@ -212,5 +219,5 @@ delivered-is-shown w bundle records out h turn e f d =
     ∙ stored-there w (ok .configured) records long (h .sender) (h .seq) (ok .sender-known) (ok .slot) (image (turn .after)) (sound-length w (h .sender) (turn .after) fine) in
     let (shown, same) =
     record-shown w (h .sender) (h .seq) (receiveRecords w bundle records out) (turn .after) (ok .configured) (ok .sender-known) (ok .slot)
-    (left-length w records (ok .configured) long _ (receive-left-one w bundle records out) ∙ long) there fine (delivers-record _ _ _ _ _ turn stepped d) in
+    (receive-length w bundle records out ∙ long) there fine (delivers-record _ _ _ _ _ turn stepped d) in
     (shown, same ∙ update-payload _ _ _ _ _ turn stepped .1)

@@ -1,4 +1,4 @@
--- Writing a text over a buffer: what then stands before it, in its place and behind it, and that two texts written one after the
+-- Writing a text over a buffer: what then stands before it, in its place and behind it, and that texts written one after the
 -- other are one. From the definitions of specs/Text.antt, for any bytes.
 -- Assumes nothing.
 use mathlib.Core.Path.{_≡_, refl, sym, ap, ap₂, _∙_}
@@ -149,3 +149,32 @@ written-more at i text out h room =
     ∙ ap (λ (k : ℕ). written (at + k) (getD text i 0 ∷ []) (written at (take i text) out)) (sym long)
     ∙ written-then at (take i text) (getD text i 0 ∷ []) out far
     ∙ ap (λ (r : List ℕ). written at r out) (sym next)
+
+-- Texts written one after the other, each from where the last one ended, are one text. On the way this is known: with the rest
+-- of the text still to be written from here, the whole of it stands where it was to stand.
+pub record Leads (at : ℕ) (text out : List ℕ) (here : ℕ) (rest now : List ℕ) : Type 0 where
+  pub room : here + length rest ≤ length now
+  pub same : written here rest now ≡ written at text out
+  pub far : here + length rest ≡ at + length text
+
+-- nothing is written yet,
+pub leads-from : (at : ℕ) (text out : List ℕ) → at + length text ≤ length out → Leads at text out at text out
+leads-from at text out room = record { room = room; same = refl; far = refl }
+
+module _ {at here next : ℕ} {text out now after : List ℕ} where
+  -- one of the texts is written,
+  pub leads-then : (xs rest : List ℕ) → Leads at text out here (xs ++ rest) now → next ≡ end here xs now → after ≡ written here xs now
+      → Leads at text out next rest after
+  leads-then xs rest l e w =
+      let both = length-append xs rest in
+      let ended : next ≡ here + length xs = e ∙ end-fits here xs now (omega (arith, l .room)) in
+      record {
+        room = rw w (omega (arith, l .room, length-written here xs now));
+        same = rw (w, ended) (written-then here xs rest now (l .room) ∙ l .same);
+        far = omega (arith, l .far);
+      }
+
+  -- and the last one is
+  pub leads-all : (rest : List ℕ) → Leads at text out here rest now → next ≡ end here rest now → after ≡ written here rest now
+      → (next ≡ at + length text) × (after ≡ written at text out)
+  leads-all rest l e w = (e ∙ end-fits here rest now (l .room) ∙ l .far, w ∙ l .same)

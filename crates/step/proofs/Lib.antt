@@ -1,0 +1,4 @@
+-- Laws of this crate that belong to no one function.
+pub mod Wrote
+pub mod Answers
+pub mod Played

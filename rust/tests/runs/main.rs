@@ -1,0 +1,76 @@
+//! The proved run program beside the Rust player: the same bytes from both, on run files made from a seed, whole and damaged.
+//!
+//! `MBRB_RUNS` sets how many files, `MBRB_SEED` another seed, both decimal; `MBRB_PLAY` names another program. With fewer than three
+//! thousand files something may be too rare, and the test fails for that.
+
+mod damage;
+mod files;
+mod program;
+mod tally;
+mod wrong;
+
+use files::{file, Made};
+use mbrb::{player, program_under_test, setting};
+use program::Program;
+use tally::Tally;
+
+const RUNS: u64 = 4_000;
+const SEED: u64 = 1;
+
+/// The files of a seed, each with its number and what has to be printed.
+fn files(seed: u64, runs: u64) -> impl Iterator<Item = (u64, Made, Vec<u8>)> {
+    (0..runs).map(move |number| {
+        let made = file(seed, number);
+        let output = expected(&made.bytes);
+        (number, made, output)
+    })
+}
+
+fn expected(input: &[u8]) -> Vec<u8> {
+    let mut output = Vec::new();
+    player::play(input, &mut output).expect("neither side can fail");
+    output
+}
+
+#[test]
+fn the_program_prints_what_the_player_prints() {
+    let (seed, runs) = (setting("MBRB_SEED", SEED), setting("MBRB_RUNS", RUNS));
+    println!("seed: {seed}");
+    let program = Program::new(program_under_test());
+    let mut tally = Tally::default();
+    for (number, made, output) in files(seed, runs) {
+        tally.count(&made, &output);
+        if program.run(&made) != output {
+            let path = program.keep(&made);
+            panic!(
+                "seed {seed}, file {number}, {}: {}",
+                made.kind,
+                path.display()
+            );
+        }
+    }
+    program.remove_folder();
+    println!("{tally}");
+    tally.assert_complete(runs / 100);
+}
+
+#[test]
+fn the_program_ends_where_it_cannot_print() {
+    let program = Program::new(program_under_test());
+    program.run_without_room(&"A 0 - - -\n".repeat(100_000));
+    program.remove_folder();
+}
+
+#[test]
+fn wrong_players_are_found() {
+    let mut found = [0; wrong::PLAYERS.len()];
+    for (_, made, output) in files(SEED, RUNS) {
+        for (found, (_, play)) in found.iter_mut().zip(wrong::PLAYERS) {
+            *found += u64::from(play(&made.bytes) != output);
+        }
+    }
+    for (found, (name, _)) in found.into_iter().zip(wrong::PLAYERS) {
+        println!("found in {found:>5} files of {RUNS}: {name}");
+        assert!(found >= 5, "{name}: in {found} files only");
+    }
+}

@@ -1,0 +1,87 @@
+//! How often each thing was seen that a run can print or have.
+
+use crate::files::{Feed, Made};
+use std::collections::BTreeMap;
+use std::fmt;
+
+/// Besides, each refusal that can occur in a run: its tables, days, lengths and records are always right.
+const WORDS: [&str; 7] = [
+    "announced 0",
+    "kept 0",
+    "signed 0",
+    "delivered 0",
+    "unread 0",
+    "no table",
+    "over-long row",
+];
+const REFUSALS: [u32; 8] = [5, 6, 7, 8, 22, 23, 24, 25];
+/// The last rows, by how many nodes delivered; fed through a pipe.
+const OTHERS: [&str; 9] = [
+    "1 units",
+    "2 units",
+    "3 units",
+    "4 units",
+    "5 units",
+    "6 units",
+    "7 units",
+    "8 units",
+    "fed in pieces",
+];
+
+#[derive(Default)]
+pub struct Tally {
+    seen: BTreeMap<String, u64>,
+    kinds: BTreeMap<&'static str, u64>,
+}
+
+impl Tally {
+    pub fn count(&mut self, made: &Made, output: &[u8]) {
+        *self.kinds.entry(made.kind).or_default() += 1;
+        if matches!(made.feed, Feed::Pipe(_)) {
+            self.add("fed in pieces".to_owned());
+        }
+        let output = std::str::from_utf8(output).expect("only letters and digits are printed");
+        let names = |line: &&str| line.ends_with("count") || line.ends_with("percent");
+        for line in output.lines().filter(|line| !names(line)) {
+            match line.split(' ').collect::<Vec<_>>()[..] {
+                [_, _, _, word, reason, _] => self.add(format!("{word} {reason}")),
+                [_, _, nodes, _] => self.add(format!("{nodes} units")),
+                _ => self.add(line.to_owned()),
+            }
+        }
+        if output != "no table\n" {
+            let rows = made.bytes.split(|&byte| byte == b'\n').skip(3);
+            rows.filter(|row| row.len() > 120)
+                .for_each(|_| self.add("over-long row".to_owned()));
+        }
+    }
+
+    fn add(&mut self, key: String) {
+        *self.seen.entry(key).or_default() += 1;
+    }
+
+    /// Fails if something that can occur was seen less than `least` times, or if something was seen that cannot occur.
+    pub fn assert_complete(&self, least: u64) {
+        let mut others = self.seen.clone();
+        let words = WORDS.into_iter().chain(OTHERS).map(str::to_owned);
+        for key in words.chain(REFUSALS.map(|number| format!("refused {number}"))) {
+            let count = others.remove(&key).unwrap_or(0);
+            assert!(count >= least, "{key}: {count}, not {least}");
+        }
+        assert!(others.is_empty(), "cannot occur: {others:?}");
+    }
+}
+
+impl fmt::Display for Tally {
+    fn fmt(&self, f: &mut fmt::Formatter) -> fmt::Result {
+        writeln!(f, "rows, or files with no table")?;
+        for (key, count) in &self.seen {
+            writeln!(f, "  {key:34}{count:>9}")?;
+        }
+        writeln!(f, "files")?;
+        for (kind, count) in &self.kinds {
+            writeln!(f, "  {kind:34}{count:>9}")?;
+        }
+        Ok(())
+    }
+}

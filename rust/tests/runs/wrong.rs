@@ -1,0 +1,148 @@
+//! Players that are the right one but for one thing, made by changing what it gets or what it prints: the comparison has to find each.
+
+use crate::expected;
+
+type Player = fn(&[u8]) -> Vec<u8>;
+
+pub const PLAYERS: [(&str, Player); 14] = [
+    ("percent rounded up", |input| {
+        let percent_of = |nodes: usize, n: usize| (100 * nodes).div_ceil(n);
+        with_last_rows(input, percent_of)
+    }),
+    ("percent of 8 always", |input| {
+        with_last_rows(input, |nodes, _| 100 * nodes / 8)
+    }),
+    ("an unread row has no place", |input| {
+        let mut place = 0;
+        edit_answers(input, |fields| {
+            place += usize::from(fields[3] != "unread");
+            fields[0] = place.to_string();
+        })
+    }),
+    ("a sender n or above is unread", |input| {
+        edit_answers(input, |fields| {
+            if fields[3..5] == ["refused", "5"] {
+                let unread = [&fields[0], "-", "-", "unread", "0", "0"].map(str::to_owned);
+                fields.clone_from_slice(&unread);
+            }
+        })
+    }),
+    ("24 in place of 23", |input| {
+        edit_answers(input, |fields| {
+            if fields[4] == "23" {
+                fields[4] = "24".to_owned();
+            }
+        })
+    }),
+    ("leading zeros accepted", |input| {
+        expected(&edit_fields(input, |field| {
+            if field.len() < 6 {
+                while let [b'0', _, ..] = field[..] {
+                    field.remove(0);
+                }
+            }
+        }))
+    }),
+    ("a plus sign accepted", |input| {
+        expected(&edit_fields(input, |field| {
+            if let [b'+', _, ..] = field[..] {
+                field.remove(0);
+            }
+        }))
+    }),
+    ("upper-case digits accepted", |input| {
+        expected(&edit_fields(input, |field| {
+            if field.len() >= 16 {
+                field.make_ascii_lowercase();
+            }
+        }))
+    }),
+    ("numbers wrap at 256", |input| {
+        expected(&edit_fields(input, |field| {
+            let number = std::str::from_utf8(field)
+                .ok()
+                .and_then(|text| text.parse::<u64>().ok());
+            if let (Some(number), 3..) = (number, field.len()) {
+                if field.len() < 16 {
+                    *field = (number % 256).to_string().into_bytes();
+                }
+            }
+        }))
+    }),
+    ("double spaces accepted", |input| {
+        expected(&edit_lines(input, |line| {
+            line.dedup_by(|a, b| (*a, *b) == (b' ', b' '))
+        }))
+    }),
+    ("a carriage return dropped", |input| {
+        expected(&edit_lines(input, |line| {
+            line.pop_if(|last| *last == b'\r');
+        }))
+    }),
+    ("an over-long row is two", |input| {
+        expected(&edit_lines(input, |line| {
+            if line.len() > 120 {
+                line.insert(120, b'\n');
+            }
+        }))
+    }),
+    ("a last row without line feed is not played", |input| {
+        let end = input.iter().rposition(|&byte| byte == b'\n');
+        expected(&input[..end.map_or(0, |end| end + 1)])
+    }),
+    ("a byte is lost at the end of a buffer", |input| {
+        let mut bytes = input.to_vec();
+        if bytes.len() > 65536 {
+            bytes.remove(65536);
+        }
+        expected(&bytes)
+    }),
+];
+
+fn edit_lines(input: &[u8], mut edit: impl FnMut(&mut Vec<u8>)) -> Vec<u8> {
+    let lines = input.split(|&byte| byte == b'\n');
+    let mut lines: Vec<_> = lines.map(<[u8]>::to_vec).collect();
+    lines.iter_mut().for_each(&mut edit);
+    lines.join(&b'\n')
+}
+
+fn edit_fields(input: &[u8], mut edit: impl FnMut(&mut Vec<u8>)) -> Vec<u8> {
+    edit_lines(input, |line| {
+        let fields = line.split(|&byte| byte == b' ');
+        let mut fields: Vec<_> = fields.map(<[u8]>::to_vec).collect();
+        fields.iter_mut().for_each(&mut edit);
+        *line = fields.join(&b' ');
+    })
+}
+
+/// The right output with its rows of six fields changed, but for the names.
+fn edit_answers(input: &[u8], mut edit: impl FnMut(&mut [String])) -> Vec<u8> {
+    edit_printed(input, |fields| {
+        if fields.len() == 6 && fields[0] != "line" {
+            edit(fields);
+        }
+    })
+}
+
+fn with_last_rows(input: &[u8], percent: impl Fn(usize, usize) -> usize) -> Vec<u8> {
+    let table = input.split(|&byte| byte == b'\n').nth(1).unwrap_or(b"");
+    let n = usize::from(table.first().unwrap_or(&0).wrapping_sub(b'0'));
+    edit_printed(input, |fields| {
+        if fields.len() == 4 && fields[0] != "sender" {
+            let nodes = fields[2].parse().expect("a count");
+            fields[3] = percent(nodes, n).to_string();
+        }
+    })
+}
+
+fn edit_printed(input: &[u8], mut edit: impl FnMut(&mut [String])) -> Vec<u8> {
+    let output = String::from_utf8(expected(input)).expect("only letters and digits are printed");
+    let mut text = String::new();
+    for line in output.lines() {
+        let mut fields: Vec<_> = line.split(' ').map(str::to_owned).collect();
+        edit(&mut fields);
+        text += &fields.join(" ");
+        text += "\n";
+    }
+    text.into_bytes()
+}
