@@ -18,7 +18,7 @@ use Rattle.row.specs.declared.Step.{Step}
 use Rattle.row.specs.declared.Step.the-variants.{Broadcast, Receive}
 use Rattle.row.specs.declared.Row.{Row}
 use Rattle.row.specs.declared.Row.the-variants.{Unread, At}
-use Rattle.row.specs.Row.{tableNames, stepNames, configIn, isTable, absent, highIn, lowIn, act, node, body, header, atNode, isBroadcast, isReceive, rowIn}
+use Rattle.row.specs.Row.{tableNames, stepNames, configIn, isTable, absent, highIn, lowIn, act, node, body, header, inSystem, isBroadcast, isReceive, rowIn}
 
 -- the names lines
 pub names-length : (length tableNames ≡ 23) × (length stepNames ≡ 35)
@@ -113,18 +113,18 @@ module _ (line : List ℕ) (e : isTable line ≡ true) where
 
 module _ (n : ℕ) (line : List ℕ) where
   -- one whose act is a letter, with a node and a short tail
-  letter-line : (c : ℕ) → (c ≡ lineFeed → ⊥) → same (act n line) (c ∷ []) ≡ true → atNode n line ≡ true → Line 57 (behind 2 line) → Line 63 line
-  unfolding act atNode behind
+  letter-line : (c : ℕ) → (c ≡ lineFeed → ⊥) → same (act n line) (c ∷ []) ≡ true → inSystem n line ≡ true → Line 57 (behind 2 line) → Line 63 line
+  unfolding act inSystem behind
   letter-line c other letter at tail =
       line-join 1 61 line (line-letter c _ other letter)
       (line-join 3 57 (behind 1 line) (line-byte _ (and-eq-true-iff (plainUpTo 255 (field 1 line)) _ .0 at .0)) tail)
 
   -- so a row of act A
-  broadcast-line : isBroadcast n line ≡ true → Line 63 line × (atNode n line ≡ true)
+  broadcast-line : isBroadcast n line ≡ true → Line 63 line × (inSystem n line ≡ true)
   unfolding isBroadcast absent ascii body behind
   broadcast-line e =
       let (letter, others) = and-eq-true-iff (same (act n line) (ascii "A")) _ .0 e in
-      let (at, more) = and-eq-true-iff (atNode n line) _ .0 others in
+      let (at, more) = and-eq-true-iff (inSystem n line) _ .0 others in
       let (x, moreX) = and-eq-true-iff (absent (field 2 line)) _ .0 more in
       let (y, moreY) = and-eq-true-iff (absent (field 3 line)) _ .0 moreX in
       let (z, payload) = and-eq-true-iff (absent (field 4 line)) _ .0 moreY in
@@ -135,11 +135,11 @@ module _ (n : ℕ) (line : List ℕ) where
       (letter-line 65 (λ q. omega arith) letter at (record { feedless = tail .feedless; short = omega (arith, tail .short) }), at)
 
   -- and one of act B
-  receive-line : isReceive n line ≡ true → Line 63 line × (atNode n line ≡ true)
+  receive-line : isReceive n line ≡ true → Line 63 line × (inSystem n line ≡ true)
   unfolding isReceive ascii body behind
   receive-line e =
       let (letter, others) = and-eq-true-iff (same (act n line) (ascii "B")) _ .0 e in
-      let (at, more) = and-eq-true-iff (atNode n line) _ .0 others in
+      let (at, more) = and-eq-true-iff (inSystem n line) _ .0 others in
       let (sender, moreX) = and-eq-true-iff (plainUpTo 255 (field 2 line)) _ .0 more in
       let (seq, moreY) = and-eq-true-iff (plainUpTo 255 (field 3 line)) _ .0 moreX in
       let (signers, payload) = and-eq-true-iff (hex 16 (field 4 line)) _ .0 moreY in (
@@ -179,12 +179,12 @@ module _ (n : ℕ) (line : List ℕ) where
 
 -- a row that is read
 module _ (n : ℕ) (line : List ℕ) (u : ℕ) (step : Step) (e : rowIn n line ≡ At u step) where
-  row-line : Line 63 line × (atNode n line ≡ true) × (node n line ≡ u)
+  row-line : Line 63 line × (inSystem n line ≡ true) × (node n line ≡ u)
   row-line = go (Broadcast (highIn (body n line)) (lowIn (body n line))) (Receive (header n line) (highIn (body n line)) (lowIn (body n line))) (isBroadcast n line) refl (isReceive n line) refl (sym (row-untested n line) ∙ e)
     where
       go : (s t : Step) (a : Bool) → isBroadcast n line ≡ a → (b : Bool) → isReceive n line ≡ b
           → cond a (At (node n line) s) (cond b (At (node n line) t) Unread) ≡ At u step
-          → Line 63 line × (atNode n line ≡ true) × (node n line ≡ u)
+          → Line 63 line × (inSystem n line ≡ true) × (node n line ≡ u)
       go s t true p b q h = let (l, at) = broadcast-line n line p in (l, at, (cc))
       go s t false p true q h = let (l, at) = receive-line n line q in (l, at, (cc))
       go s t false p false q h = absurd (let z : _≡_ {A = ℕ} 0 1 = cc in omega arith)
@@ -198,6 +198,6 @@ module _ (n : ℕ) (line : List ℕ) (u : ℕ) (step : Step) (e : rowIn n line �
 
   -- and is at a node of the system
   pub row-node : u < n
-  unfolding atNode
+  unfolding inSystem
   row-node =
       omega (arith, row-line .2, ltb-true (node n line) n (and-eq-true-iff (plainUpTo 255 (field 1 line)) _ .0 (row-line .1) .1))

@@ -16,7 +16,7 @@ use Rattle.text.proofs.Fields.{only-append, hex-none}
 use Rattle.row.specs.declared.Step.the-variants.{Broadcast, Receive}
 use Rattle.row.specs.declared.Row.{Row}
 use Rattle.row.specs.declared.Row.the-variants.{Unread, At}
-use Rattle.row.specs.Row.{absent, highIn, lowIn, act, node, body, header, atNode, isBroadcast, isReceive, rowIn}
+use Rattle.row.specs.Row.{absent, highIn, lowIn, act, node, body, header, inSystem, isBroadcast, isReceive, rowIn}
 use Rattle.row.specs.Tails.{nodeTail, broadcastTail, receiveTail}
 use Rattle.row.proofs.Lengths.{row-untested}
 use Rattle.row.proofs.Places.{NumberAt, nothing-plain, cond-and, cond-same, field-next}
@@ -201,14 +201,14 @@ letters = refl
 -- a row is one of two tails, by its act
 module _ (n : ℕ) (line : List ℕ) where
   pub row-tails : rowIn n line
-      ≡ cond (atNode n line)
+      ≡ cond (inSystem n line)
       (cond (same (act n line) (ascii "A")) (broadcastTail (node n line) (behind 2 line))
       (cond (same (act n line) (ascii "B")) (receiveTail (node n line) (behind 2 line)) Unread))
       Unread
   unfolding isBroadcast isReceive broadcastTail receiveTail body header behind
   row-tails =
       row-untested n line
-      ∙ go (same (act n line) (ascii "A")) refl (same (act n line) (ascii "B")) refl (atNode n line) _ _ _ _
+      ∙ go (same (act n line) (ascii "A")) refl (same (act n line) (ascii "B")) refl (inSystem n line) _ _ _ _
     where
       apart : same (act n line) (ascii "A") ≡ true → same (act n line) (ascii "B") ≡ true → ⊥
       apart a b = true≢false (sym b ∙ rw (same-says (act n line) (ascii "A") a) letters)
@@ -224,12 +224,12 @@ module _ (n : ℕ) (line : List ℕ) where
 
   -- with no node, or with neither act, it is unread
   row-alone : rest line ≡ [] → rowIn n line ≡ Unread
-  unfolding atNode behind first before plainUpTo plain
+  unfolding inSystem behind first before plainUpTo plain
   row-alone e = row-tails ∙ rw e
 
   row-neither : same (first line) (ascii "A") ≡ false → same (first line) (ascii "B") ≡ false → rowIn n line ≡ Unread
   unfolding act behind
-  row-neither a b = row-tails ∙ rw (a, b) (cond-same (atNode n line) Unread)
+  row-neither a b = row-tails ∙ rw (a, b) (cond-same (inSystem n line) Unread)
 
 -- the row by its bytes: the letter at 0, a space at 1, and from 2 on the node and the tail
 abbrev tailIn : ℕ → ℕ → List ℕ → Row
@@ -266,7 +266,7 @@ module _ (n x y : ℕ) (xs : List ℕ) where
   letter-cut e f = (rw (e, f), rw (e, f))
 
   space-second : eqb x space ≡ false → eqb y space ≡ true → rowIn n (x ∷ (y ∷ xs)) ≡ nodeIn n x xs
-  unfolding act atNode node behind same ascii
+  unfolding act inSystem node behind same ascii
   space-second e f =
       let (letter, tail) = letter-cut e f in
       row-tails n (x ∷ (y ∷ xs)) ∙ rw (letter, tail) (simp (and-true, cond-and))

@@ -27,7 +27,7 @@ stepNames = ascii "act unit sender number signers body"
 
 -- ---- the table row
 
--- the table that four numbers write; its own number is nobody's
+-- the table that four numbers write, at node 0: who plays it puts in each node's own number
 unfoldable pub configIn : List ℕ → Config
 configIn line = record {
   n = value 10 0 (field 0 line);
@@ -77,14 +77,14 @@ module _ (n : ℕ) (line : List ℕ) where
   body = behind 5 line
 
   -- "with a unit n or above"
-  unfoldable pub atNode : Bool
-  atNode = plainUpTo 255 (field 1 line) && ltb node n
+  unfoldable pub inSystem : Bool
+  inSystem = plainUpTo 255 (field 1 line) && ltb node n
 
   -- "Act A announces at a unit,": "Signers are 16 and a body 32 lowercase hexadecimal digits; - stands where A has no field, and nowhere else."
   unfoldable pub isBroadcast : Bool
   isBroadcast =
       same act (ascii "A")
-      && (atNode
+      && (inSystem
       && (absent (field 2 line)
       && (absent (field 3 line)
       && (absent (field 4 line)
@@ -94,7 +94,7 @@ module _ (n : ℕ) (line : List ℕ) where
   unfoldable pub isReceive : Bool
   isReceive =
       same act (ascii "B")
-      && (atNode
+      && (inSystem
       && (plainUpTo 255 (field 2 line)
       && (plainUpTo 255 (field 3 line)
       && (hex 16 (field 4 line)

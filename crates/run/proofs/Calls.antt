@@ -97,7 +97,7 @@ handed-payload day h high low = refl
 -- announcing
 module _ (s : System) (u high low : ℕ) (records : List ℕ) where
   broadcast-is-call : IsCall s u (Broadcast high low) records
-  unfolding answerOf callOf atNode config sends announcesIn deliversIn delivers
+  unfolding answerOf callOf atNode config sends announcesIn demand.announces deliversIn delivers
   broadcast-is-call = go (broadcast (config s u) (payloadOf high low) records lent) refl
     where
       go : (o : Outcome ℕ) → broadcast (config s u) (payloadOf high low) records lent ≡ o → IsCall s u (Broadcast high low) records
@@ -107,6 +107,7 @@ module _ (s : System) (u high low : ℕ) (records : List ℕ) where
             sent = rw e;
             announced = λ yes. absurd (true≢false (sym (rw e at yes)));
             announcing = λ seq yes. absurd (true≢false (sym (rw e at yes)));
+            announced-this = λ seq content. refl;
             delivered = λ sender seq. rw e;
             delivered-this = λ sender seq content. refl;
           }
@@ -116,6 +117,7 @@ module _ (s : System) (u high low : ℕ) (records : List ℕ) where
             sent = rw e;
             announced = λ yes. (k, rw e (eq-eqb k k refl));
             announcing = λ seq yes. rw e;
+            announced-this = λ seq content. refl;
             delivered = λ sender seq. rw e;
             delivered-this = λ sender seq content. refl;
           }
@@ -126,7 +128,7 @@ module _ (s : System) (u : ℕ) (header : Header) (high low : ℕ) (records : Li
   given = bundleOf (s .shared .day) header (payloadOf high low)
 
   receive-is-call : IsCall s u (Receive header high low) records
-  unfolding answerOf reported callOf atNode config sends announcesIn deliversIn delivers
+  unfolding answerOf reported callOf atNode config sends announcesIn demand.announces deliversIn delivers
   receive-is-call = go (receive (config s u) given records lent) refl
     where
       this : (sender seq : ℕ) (content : List ℕ)
@@ -143,6 +145,7 @@ module _ (s : System) (u : ℕ) (header : Header) (high low : ℕ) (records : Li
             sent = rw e;
             announced = λ yes. absurd (true≢false (sym (rw e at yes)));
             announcing = λ seq yes. absurd (true≢false (sym yes));
+            announced-this = λ seq content. refl;
             delivered = λ sender seq. rw e;
             delivered-this = this;
           }
@@ -154,6 +157,7 @@ module _ (s : System) (u : ℕ) (header : Header) (high low : ℕ) (records : Li
             sent = rw e;
             announced = λ yes. absurd (true≢false (sym (rw e at yes) ∙ receive-announces (config s u) given records lent turn e));
             announcing = λ seq yes. absurd (true≢false (sym yes));
+            announced-this = λ seq content. refl;
             delivered = λ sender seq. rw (e, handed-slot (s .shared .day) header high low sender seq today);
             delivered-this = this;
           }

@@ -53,7 +53,8 @@ module _ (p : Progress) (chunk out₀ : List ℕ) where
       long : length piece ≡ length chunk - at
       long = ap length is ∙ length-drop at chunk
 
-      pub used-some : (1 ≤ used) × (at + used ≤ length chunk)
+      -- a byte at least is used, and no more than there are
+      used-some : (1 ≤ used) × (at + used ≤ length chunk)
       used-some =
           let (some, within) = through-some piece (omega (arith, long)) in
           (omega (arith, takes .0), omega (arith, takes .0, long))
@@ -65,7 +66,7 @@ module _ (p : Progress) (chunk out₀ : List ℕ) where
       unfolding line
       joined = take-add at used chunk ∙ ap₂ (λ (k : ℕ) (xs : List ℕ). take at chunk ++ take k xs) (takes .0) (sym is)
 
-      pub one-more : SoFar (at + used) next after left len' over
+      pub one-more : (1 ≤ used) × (at + used ≤ length chunk) × SoFar (at + used) next after left len' over
       unfolding line
       one-more =
           let (e, t) = pieces p (take at chunk) line in
@@ -74,16 +75,19 @@ module _ (p : Progress) (chunk out₀ : List ℕ) where
           let a : List ℕ = fedText p (take at chunk) in
           let b : List ℕ = fedText (progress now buffer records) line in
           let fits : 0 + length (a ++ b) ≤ length out₀ =
-          omega (arith, ap length text, fed-length p (take (at + used) chunk), length-take (at + used) chunk) in
-          record {
-            known-now = takes .1 .0 ∙ ap (λ (q : Progress). fed q line) (so-far .known-now) ∙ sym (ap (fed p) joined ∙ e);
-            printed-now = takes .1 .1 .0 ∙ ap (λ (k : ℕ). k + length b) (so-far .printed-now) ∙ sym (ap length text ∙ length-append a b);
-            out-now =
-                takes .1 .1 .1
-                ∙ ap₂ (λ (k : ℕ) (r : List ℕ). written k b r) (so-far .printed-now ∙ sym (zero-add (length a))) (so-far .out-now)
-                ∙ written-then 0 a b out₀ fits
-                ∙ ap (λ (text : List ℕ). written 0 text out₀) (sym text);
-          }
+          omega (arith, ap length text, fed-length p (take (at + used) chunk), length-take (at + used) chunk) in (
+            used-some .0,
+            used-some .1,
+            record {
+              known-now = takes .1 .0 ∙ ap (λ (q : Progress). fed q line) (so-far .known-now) ∙ sym (ap (fed p) joined ∙ e);
+              printed-now = takes .1 .1 .0 ∙ ap (λ (k : ℕ). k + length b) (so-far .printed-now) ∙ sym (ap length text ∙ length-append a b);
+              out-now =
+                  takes .1 .1 .1
+                  ∙ ap₂ (λ (k : ℕ) (r : List ℕ). written k b r) (so-far .printed-now ∙ sym (zero-add (length a))) (so-far .out-now)
+                  ∙ written-then 0 a b out₀ fits
+                  ∙ ap (λ (text : List ℕ). written 0 text out₀) (sym text);
+            },
+          )
 
   -- until all of it is taken
   pub all-taken : (now : Run) (buffer records : List ℕ) (at len : ℕ) (out : List ℕ) → length chunk ≤ at → SoFar at now buffer records len out

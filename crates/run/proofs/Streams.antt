@@ -26,7 +26,7 @@ use Rattle.run.specs.declared.Stage.the-variants.{TableRow, StepNames, S
 use Rattle.run.specs.Run as run
 use Rattle.run.specs.Calls.{showing}
 use Rattle.run.specs.Run.{mostNodes, openings, withRow, withRows, callsOf, rowsText, slotsText, runText, noTable, linesText, printed}
-use Rattle.run.specs.Stream.{recordsSpace, openedUpTo, Progress, fresh, nodes, moved, withTable, started, rowRecords, stepped, ended, endedText, byte, byteText, fed, fedText, closing, Streams, Pieces}
+use Rattle.run.specs.Stream.{recordsSpace, openedUpTo, Progress, fresh, nodes, moved, withTable, started, rowRecords, stepped, ended, endedText, byte, byteText, fed, fedText, fedAll, fedAllText, joined, closing, finishedText, known, progress, startRun, Streams, Pieces, InPieces}
 use Rattle.run.proofs.Played.{Plays, all-nodes, started-plays, row-plays, row-prints, showing-same}
 use Rattle.run.proofs.Counted.{units-show}
 use Rattle.run.proofs.Long.{held}
@@ -193,3 +193,19 @@ pub streams : Streams
 unfolding printed fresh
 streams records input size fits =
     lined-rest (fresh records) input refl ∙ lines-print records size (lines input) (omega (arith, lines-few input))
+
+-- pieces are what they are together,
+all-fed : (p : Progress) (pieces : List (List ℕ)) → (fedAll p pieces ≡ fed p (joined pieces)) × (fedAllText p pieces ≡ fedText p (joined pieces))
+unfolding fedAll fedAllText joined fed fedText
+all-fed p [] = (refl, refl)
+all-fed p (piece ∷ others) =
+    let (e, t) = pieces p piece (joined others) in
+    let (f, u) = all-fed (fed p piece) others in
+    (f ∙ sym e, ap (λ (text : List ℕ). fedText p piece ++ text) u ∙ sym t)
+
+-- and the program starts afresh
+pub in-pieces : InPieces
+unfolding progress known startRun fresh
+in-pieces line records parts size fits =
+    let (e, t) = all-fed (fresh records) parts in
+    ap₂ (λ (text : List ℕ) (p : Progress). text ++ finishedText p) t e ∙ streams records (joined parts) size fits

@@ -16,6 +16,7 @@ use Rattle.config.specs.Config.{good, recordsSize}
 use Rattle.protocol.specs.Slot as slot
 use Rattle.calls.specs.Delivered as shown
 use Rattle.protocol.specs.Trace.{Trace, start, _then_calls_}
+use Rattle.system.specs.Demand3 as demand3
 use Rattle.system.specs.Demand3.{Call, System, config, correct, recordsAfter, opens, announcesIn, deliversIn, delivers, sends, buffer, ever, times, called, Unforged, Lawful}
 use Rattle.row.specs.declared.Row.the-variants.{Unread}
 use Rattle.row.specs.declared.Step.{Step}
@@ -62,6 +63,7 @@ module _ (s : System) (u : ℕ) (step : Step) (records : List ℕ) where
     pub sent : says slot.sends reply ≡ sends s u call records
     pub announced : says announces reply ≡ true → (seq : ℕ) × (announcesIn s seq u call records ≡ true)
     pub announcing : (seq : ℕ) → announcesIn s seq u call records ≡ true → says announces reply ≡ true
+    pub announced-this : (seq : ℕ) (content : List ℕ) → demand3.announces s seq content u call records ≡ (announcesIn s seq u call records && same (payload step) content)
     pub delivered : (sender seq : ℕ) → deliversIn s sender seq u call records ≡ (says slot.delivers reply && hands sender seq step)
     pub delivered-this : (sender seq : ℕ) (content : List ℕ)
         → delivers s sender seq content u call records ≡ (deliversIn s sender seq u call records && same (payload step) content)
@@ -90,7 +92,7 @@ RunRecords =
 
 -- ---- a run is a list of demand 3
 
--- the calls at the nodes of a set, and no others: "Unread rows and rows at faulty units do nothing."
+-- the calls at the nodes of a set, and no others; document 02, Job 13: "Unread rows and rows at faulty units do nothing."
 unfoldable pub callsAt : NodeSet → Trace Call → Trace Call
 callsAt set start = start
 callsAt set (earlier then u calls call) = cond (set u) (callsAt set earlier then u calls call) (callsAt set earlier)

@@ -26,6 +26,13 @@ mostNodes = 8
 unfoldable pub systemOf : Config → System
 systemOf w = record { shared = w; faulty = λ u. false; buffers = λ u. replicate (recordsSize w) 0 }
 
+-- the two names lines that are printed
+abbrev pub rowNames : List ℕ
+rowNames = ascii "line act unit answer reason count\n"
+
+abbrev pub slotNames : List ℕ
+slotNames = ascii "sender number units percent\n"
+
 -- f 0, f 1 and on, up to f (n - 1)
 unfoldable pub rising : (ℕ → List ℕ) → ℕ → List ℕ
 rising f zero = []
@@ -78,7 +85,7 @@ module _ (w : Config) where
   rowsText place before (line ∷ others) =
       rowText place before (rowIn (w .n) line) ++ rowsText (suc place) (withRow before (rowIn (w .n) line)) others
 
-  -- how many nodes have delivered the slot, "whichever body", as demand 3 has it: by some call on the list that was answered delivered
+  -- The column `units`: how many nodes have delivered the slot, "whichever body", as demand 3 has it: by some call on the list that was answered delivered
   unfoldable pub units : Trace Call → ℕ → ℕ → ℕ
   units list sender seq = count (ever (systemOf w) (deliversIn (systemOf w) sender seq) list) (w .n)
 
@@ -92,9 +99,9 @@ module _ (w : Config) where
   -- "Both printed names lines come even if no row follows them."
   unfoldable pub runText : List (List ℕ) → List ℕ
   runText rows =
-      ascii "line act unit answer reason count\n"
+      rowNames
       ++ (rowsText 1 (openings (w .n)) rows
-      ++ (ascii "sender number units percent\n"
+      ++ (slotNames
       ++ slotsText (units (callsOf rows))))
 
 -- "A wrong names line, a bad table row .. or more than 8 units"

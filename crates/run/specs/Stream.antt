@@ -1,5 +1,6 @@
 -- The run program byte by byte, as it is given its input in pieces: what is known after so much of it, and what is printed for each line as it ends.
--- That this prints, for a whole input, what specs/Run.antt says is the theorem `Streams`, proved in proofs/Streams.antt.
+-- That this prints, for a whole input, what specs/Run.antt says is the theorem `Streams`, proved in proofs/Streams.antt: a reader who believes
+-- specs/Run.antt need hold nothing here beside document 01.
 -- Assumes nothing.
 use mathlib.Core.Path.{_≡_}
 use mathlib.Core.Bool.{true, false, cond}
@@ -14,7 +15,7 @@ use Rattle.config.specs.declared.Config.{Config}
 use Rattle.config.specs.Config.{recordsSize}
 use Rattle.calls.specs.Open.{openRecords}
 use Rattle.calls.specs.Delivered.{delivered}
-use Rattle.text.specs.Text.{ascii, lineFeed, empty}
+use Rattle.text.specs.Text.{lineFeed, empty}
 use Rattle.row.specs.declared.Row.{Row}
 use Rattle.row.specs.declared.Row.the-variants.{Unread, At}
 use Rattle.row.specs.declared.Table.{Table}
@@ -24,7 +25,7 @@ use Rattle.step.specs.Step.{atNode, answerOf, recordsBy, actOf, stepText, unrea
 use Rattle.run.specs.declared.Run.{Run}
 use Rattle.run.specs.declared.Stage.{Stage}
 use Rattle.run.specs.declared.Stage.the-variants.{TableNames, TableRow, StepNames, Steps, NoTable}
-use Rattle.run.specs.Run.{mostNodes, noTable, slotsText, printed}
+use Rattle.run.specs.Run.{mostNodes, rowNames, slotNames, noTable, slotsText, printed}
 
 -- ---- the records of all nodes in one buffer
 
@@ -46,12 +47,12 @@ putRecords w u new records = take (nodeSpace * u) records ++ (new ++ drop (nodeS
 unfoldable pub nodes : Config → ℕ
 nodes w = cond (leb (w .n) mostNodes) (w .n) 0
 
--- with the day opened at the nodes 0 to k - 1
+-- with the day opened at so many nodes, from 0 on
 unfoldable pub openedUpTo : Config → ℕ → List ℕ → List ℕ
 openedUpTo w zero records = records
 openedUpTo w (suc u) records = putRecords w u (openRecords (atNode w u) (recordsAt w u (openedUpTo w u records))) (openedUpTo w u records)
 
--- the nodes that have delivered the slot
+-- how many nodes show a payload in the slot
 unfoldable pub delivering : Config → List ℕ → ℕ → ℕ → ℕ
 delivering w records sender seq = count (λ u. after (delivered (atNode w u) sender seq (recordsAt w u records)) (λ place. true) false) (nodes w)
 
@@ -126,7 +127,7 @@ module _ (p : Progress) where
   abbrev pub endedTextAt : Stage → List ℕ
   endedTextAt TableNames = []
   endedTextAt TableRow = []
-  endedTextAt StepNames = cond (same (p .line) stepNames) (ascii "line act unit answer reason count\n") []
+  endedTextAt StepNames = cond (same (p .line) stepNames) rowNames []
   endedTextAt Steps = rowText (rowIn (nodes (p .config)) (p .line))
   endedTextAt NoTable = []
 
@@ -158,7 +159,7 @@ abbrev pub lastText : Stage → Progress → List ℕ
 lastText TableNames p = noTable
 lastText TableRow p = noTable
 lastText StepNames p = noTable
-lastText Steps p = ascii "sender number units percent\n" ++ slotsText (p .config) (delivering (p .config) (p .records))
+lastText Steps p = slotNames ++ slotsText (p .config) (delivering (p .config) (p .records))
 lastText NoTable p = noTable
 
 unfoldable pub closing : Progress → List ℕ
@@ -198,3 +199,23 @@ abbrev pub Pieces : Type 0
 Pieces =
     (p : Progress) (first second : List ℕ)
     → (fed p (first ++ second) ≡ fed (fed p first) second) × (fedText p (first ++ second) ≡ fedText p first ++ fedText (fed p first) second)
+
+-- the pieces of an input, one after the other
+unfoldable pub fedAll : Progress → List (List ℕ) → Progress
+fedAll p [] = p
+fedAll p (piece ∷ others) = fedAll (fed p piece) others
+
+unfoldable pub fedAllText : Progress → List (List ℕ) → List ℕ
+fedAllText p [] = []
+fedAllText p (piece ∷ others) = fedText p piece ++ fedAllText (fed p piece) others
+
+unfoldable pub joined : List (List ℕ) → List ℕ
+joined [] = []
+joined (piece ∷ others) = piece ++ joined others
+
+-- So what the program prints, piece by piece from `start` on and at the end, is what document 01 says of its input. A piece has at most `mostChunk` bytes
+-- for `feed`; here it has any length.
+abbrev pub InPieces : Type 0
+InPieces =
+    (held records : List ℕ) (pieces : List (List ℕ)) → length records ≡ recordsSpace → length (joined pieces) < 2 ^ 64
+    → fedAllText (progress startRun held records) pieces ++ finishedText (fedAll (progress startRun held records) pieces) ≡ printed (joined pieces)

@@ -22,15 +22,12 @@ ghost use Rattle.run.specs.Inner.{through, FeedAt, readText, heldRun, mo
 // How many nodes a run may have.
 pub const NODES: u8 = 8;
 
-// The bytes lent for the records of all nodes, for the line that has not ended yet, and for what is
-// printed for one piece of the input, of which CHUNK bytes are taken at a time.
-pub const RECORDS: usize = 32768;
+// The bytes of a line that are held until it ends: one more than a row may have. A line that is longer is
+// wrong whatever follows.
+const HELD: usize = 121;
 
-pub const HELD: usize = 121;
-
+// So many bytes of the input are taken at a time. There is room in `out` for whatever they print.
 pub const CHUNK: usize = 16384;
-
-pub const OUT: usize = 1310720;
 
 // A node's records start at so many bytes times its number: there is room for eight nodes.
 const NODE_SPACE: usize = 4096;
@@ -78,7 +75,8 @@ pub fn start() -> Run
     }
 }
 
-// Takes a piece of the input, at most CHUNK bytes of it, and writes what is printed for it to `out`.
+// Takes a piece of the input and writes what is printed for it to `out`. Of a piece of more than CHUNK bytes
+// only the first CHUNK are taken: a caller hands on the others in another piece.
 pub fn feed(
     run: Run,
     chunk: &[u8],
@@ -417,7 +415,7 @@ fn open(config: Config, records: &mut [u8])
 
 // Plays a step row at its node, over that node's part of the records, and prints it. For a row that is not
 // read nothing is done, and the answer is `at`. It is the one place that reads a row, so that a row is never
-// handed on by way of memory: that was seen to cost a tenth of a run's time.
+// handed on by way of memory, which costs five percent of a run each time.
 fn play_line(run: Run, line: &[u8], records: &mut [u8], at: usize, out: &mut [u8]) -> usize
     requires { ⌜ length (now records) ≡ recordsSpace ⌝ }
     requires { ⌜ at + rowSpace ≤ length (now out) ⌝ }

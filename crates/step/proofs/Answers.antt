@@ -20,7 +20,7 @@ use Rattle.row.specs.Row.{payloadOf}
 use Rattle.step.specs.declared.Answer.{Answer}
 use Rattle.step.specs.declared.Answer.the-variants as answer
 use Rattle.step.specs.Step.{lent, answerOf, recordsBy, Answers, answered, actOf, actBy, answerText, wordOf, stepText, unreadText, rowSpace}
-use Rattle.step.proofs.Wrote.{Puts, room-left, _then_}
+use Rattle.text.proofs.Wrote.{Puts, room-left, _then_}
 
 -- ---- what an answer says
 

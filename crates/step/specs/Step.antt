@@ -11,8 +11,9 @@ use Rattle.config.specs.declared.Config.{Config}
 use Rattle.bundle.specs.Bundle.{size, bundleOf}
 use Rattle.protocol.specs.Slot as slot
 use Rattle.protocol.specs.Slot.{announced, kept, signed, delivered}
-use Rattle.calls.specs.Broadcast.{broadcast, broadcastRecords, announcementOf}
-use Rattle.calls.specs.Receive.{receive, receiveRecords, reported, receiptOf}
+use Rattle.calls.specs.declared.Announcement.the-variants.{Announced}
+use Rattle.calls.specs.Broadcast.{broadcast, broadcastRecords, broadcastOut, announcementOf, announcementCount}
+use Rattle.calls.specs.Receive.{receive, receiveRecords, receiveOut, reported, receiptOf}
 use Rattle.text.specs.Text.{ascii, decimal, written}
 use Rattle.row.specs.declared.Step.{Step}
 use Rattle.row.specs.declared.Step.the-variants as step
@@ -34,30 +35,45 @@ unfoldable pub callOf : Config → Step → Call
 callOf w (step.Broadcast high low) = Broadcast (payloadOf high low) lent
 callOf w (step.Receive header high low) = Receive (bundleOf (w .day) header (payloadOf high low)) lent
 
+-- the call of a step over any outgoing bytes that are lent to it
+module _ (w : Config) (out : List ℕ) where
+  -- an answer is that of the step's own call, with the number that announcing used
+  abbrev pub AnswersOver : Step → List ℕ → Answer → Type 0
+  AnswersOver (step.Broadcast high low) records (answer.Broadcast announcement) =
+      announcementOf announcement ≡ broadcast w (payloadOf high low) records out
+  AnswersOver (step.Broadcast high low) records (answer.Receive receipt) = ⊥
+  AnswersOver (step.Receive header high low) records (answer.Broadcast announcement) = ⊥
+  AnswersOver (step.Receive header high low) records (answer.Receive receipt) =
+      receiptOf receipt ≡ (receive w (bundleOf (w .day) header (payloadOf high low)) records out and-then λ turn. done (reported turn))
+
+  -- the node's records afterwards, and the outgoing bytes
+  abbrev pub recordsOver : Step → List ℕ → List ℕ
+  recordsOver (step.Broadcast high low) records = broadcastRecords w (payloadOf high low) records out
+  recordsOver (step.Receive header high low) records = receiveRecords w (bundleOf (w .day) header (payloadOf high low)) records out
+
+  abbrev pub outOver : Step → List ℕ → List ℕ
+  outOver (step.Broadcast high low) records = broadcastOut w (payloadOf high low) records out
+  outOver (step.Receive header high low) records = receiveOut w (bundleOf (w .day) header (payloadOf high low)) records out
+
+-- and over those of the program
 module _ (w : Config) where
-  -- what the call answers at the node, with its count. Announcing counts the node itself.
+  -- what the call answers at the node, with its count
   unfoldable pub answerOf : Step → List ℕ → Outcome (slot.Answer × ℕ)
-  answerOf (step.Broadcast high low) records = broadcast w (payloadOf high low) records lent and-then λ seq. done (announced, 1)
+  answerOf (step.Broadcast high low) records =
+      broadcast w (payloadOf high low) records lent and-then λ seq. done (announced, announcementCount (Announced seq))
   answerOf (step.Receive header high low) records =
       receive w (bundleOf (w .day) header (payloadOf high low)) records lent and-then λ turn. done (reported turn)
 
+  abbrev pub Answers : Step → List ℕ → Answer → Type 0
+  Answers = AnswersOver w lent
+
   -- the node's records afterwards
   unfoldable pub recordsBy : Step → List ℕ → List ℕ
-  recordsBy (step.Broadcast high low) records = broadcastRecords w (payloadOf high low) records lent
-  recordsBy (step.Receive header high low) records = receiveRecords w (bundleOf (w .day) header (payloadOf high low)) records lent
-
-  -- an answer is that of the step's own call, with the number that announcing used
-  abbrev pub Answers : Step → List ℕ → Answer → Type 0
-  Answers (step.Broadcast high low) records (answer.Broadcast announcement) =
-      announcementOf announcement ≡ broadcast w (payloadOf high low) records lent
-  Answers (step.Broadcast high low) records (answer.Receive receipt) = ⊥
-  Answers (step.Receive header high low) records (answer.Broadcast announcement) = ⊥
-  Answers (step.Receive header high low) records (answer.Receive receipt) =
-      receiptOf receipt ≡ (receive w (bundleOf (w .day) header (payloadOf high low)) records lent and-then λ turn. done (reported turn))
+  recordsBy made records = recordsOver w lent made records
 
 -- the paper's answer and count for each case, or the number of the refusal
 abbrev pub answered : Answer → Outcome (slot.Answer × ℕ)
-answered (answer.Broadcast announcement) = announcementOf announcement and-then λ seq. done (announced, 1)
+answered (answer.Broadcast announcement) = announcementOf announcement and-then λ seq. done (announced, announcementCount (Announced seq))
 answered (answer.Receive receipt) = receiptOf receipt
 
 -- ---- what is printed

@@ -13,7 +13,7 @@ ghost use Rattle.refusal.specs.Outcome.{refused as refusedFor};
 ghost use Rattle.refusal.specs.Refusal.{numberOf};
 ghost use Rattle.calls.specs.Receive.{receiptOf};
 ghost use Rattle.text.specs.Text.{ascii, decimal, written};
-ghost use Rattle.step.specs.Step.{atNode, Answers, recordsBy, answered, actBy, answerText, stepText, unreadText, printedOver, printedEnd};
+ghost use Rattle.step.specs.Step.{atNode, AnswersOver, recordsOver, outOver, Answers, recordsBy, answered, actBy, answerText, stepText, unreadText, printedOver, printedEnd};
 
 // Room for any row that is printed.
 pub const ROW_SPACE: usize = 80;
@@ -37,14 +37,23 @@ pub fn at_node(config: Config, own: u8) -> Config
     }
 }
 
-// Plays a step at the node of this configuration, over its records. It is one call of a node, with 32
-// outgoing bytes of its own.
+// Plays a step at the node of this configuration, over its records. What it sends is not looked at.
 pub fn play(config: Config, step: Step, records: &mut [u8]) -> Answer
     ensures { λ r. ⌜ Answers config step (now (records .entry)) r ⌝ }
     ensures { λ _. ⌜ now (records .exit) ≡ recordsBy config step (now (records .entry)) ⌝ }
 {
-    let mut bundle = [0u8; 32];
     let mut out = [0u8; 32];
+    call(config, step, records, &mut out)
+}
+
+// Makes the call that a step stands for, at the node of this configuration. What is announced, signed or
+// delivered is sent: it stands in `out` then, of 32 bytes.
+pub fn call(config: Config, step: Step, records: &mut [u8], out: &mut [u8]) -> Answer
+    ensures { λ r. ⌜ AnswersOver config (now (out .entry)) step (now (records .entry)) r ⌝ }
+    ensures { λ _. ⌜ now (records .exit) ≡ recordsOver config (now (out .entry)) step (now (records .entry)) ⌝ }
+    ensures { λ _. ⌜ now (out .exit) ≡ outOver config (now (out .entry)) step (now (records .entry)) ⌝ }
+{
+    let mut bundle = [0u8; 32];
     match step {
         Step::Broadcast { high, low } => {
             let nobody = Header {
@@ -53,11 +62,11 @@ pub fn play(config: Config, step: Step, records: &mut [u8]) -> Answer
                 signers: 0,
             };
             bundle::encode(config.day, nobody, high, low, &mut bundle);
-            Answer::Broadcast(calls::broadcast(config, &bundle[16..32], records, &mut out))
+            Answer::Broadcast(calls::broadcast(config, &bundle[16..32], records, out))
         }
         Step::Receive { header, high, low } => {
             bundle::encode(config.day, header, high, low, &mut bundle);
-            Answer::Receive(calls::receive(config, &bundle, records, &mut out))
+            Answer::Receive(calls::receive(config, &bundle, records, out))
         }
     }
 }

@@ -2,4 +2,5 @@
 pub mod Fields
 pub mod Values
 pub mod Written
+pub mod Wrote
 pub mod Spelled

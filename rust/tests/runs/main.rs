@@ -57,8 +57,22 @@ fn the_program_prints_what_the_player_prints() {
 #[test]
 fn the_program_ends_where_it_cannot_print() {
     let program = Program::new(program_under_test());
-    program.run_without_room(&"A 0 - - -\n".repeat(100_000));
+    let said = program.run_without_room(&"A 0 - - -\n".repeat(100_000));
     program.remove_folder();
+    assert_eq!(said, "play: writing failed\n");
+}
+
+#[test]
+fn a_line_that_was_not_read_whole_is_not_played() {
+    let program = Program::new(program_under_test());
+    let rows = "A 0 - - - 11111111111111111111111111111111\nA 0 - - -";
+    let [printed, said] = program.run_broken(rows);
+    program.remove_folder();
+    assert_eq!(
+        printed,
+        "line act unit answer reason count\n1 A 0 announced 0 1\n"
+    );
+    assert_eq!(said, "play: reading failed\n");
 }
 
 #[test]

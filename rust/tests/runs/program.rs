@@ -2,7 +2,9 @@
 
 use crate::files::{Feed, Made, HEAD};
 use std::fs::{self, File};
-use std::io::{Read, Write};
+use std::io::{self, Read, Write};
+use std::net::{TcpListener, TcpStream};
+use std::os::fd::OwnedFd;
 use std::path::PathBuf;
 use std::process::{ChildStdin, Command, Stdio};
 use std::thread;
@@ -47,18 +49,26 @@ impl Program {
         output
     }
 
-    /// Every write fails, and the program has to end all the same.
-    pub fn run_without_room(&self, rows: &str) {
+    /// Every write fails: what the program says of it.
+    pub fn run_without_room(&self, rows: &str) -> String {
         let path = self.folder.join("run");
         fs::write(&path, HEAD.to_owned() + rows).expect("the folder is ours");
         let full = File::options().write(true).open("/dev/full");
-        let status = Command::new(&self.path)
+        let output = Command::new(&self.path)
             .stdin(File::open(path).expect("just written"))
             .stdout(full.expect("a device that is always full"))
-            .stderr(Stdio::null())
-            .status()
+            .output()
             .expect("the program starts");
-        assert!(status.code().is_some(), "{status}");
+        String::from_utf8(output.stderr).expect("plain text")
+    }
+
+    /// These bytes can be read, and then a read fails: what the program prints, and what it says of it.
+    pub fn run_broken(&self, rows: &str) -> [String; 2] {
+        let output = Command::new(&self.path)
+            .stdin(broken(&(HEAD.to_owned() + rows)).expect("a connection"))
+            .output()
+            .expect("the program starts");
+        [output.stdout, output.stderr].map(|text| String::from_utf8(text).expect("plain text"))
     }
 
     /// Writes the file for those who want to look at it.
@@ -71,6 +81,19 @@ impl Program {
     pub fn remove_folder(&self) {
         fs::remove_dir_all(&self.folder).expect("the folder is ours");
     }
+}
+
+/// A connection that its other end resets behind these bytes: it closes it with a byte unread.
+fn broken(bytes: &str) -> io::Result<OwnedFd> {
+    let listener = TcpListener::bind("127.0.0.1:0")?;
+    let mut writer = TcpStream::connect(listener.local_addr()?)?;
+    let (mut reader, _) = listener.accept()?;
+    reader.write_all(b"x")?;
+    writer.peek(&mut [0])?;
+    writer.write_all(bytes.as_bytes())?;
+    while reader.peek(&mut vec![0; bytes.len()])? < bytes.len() {}
+    drop(writer);
+    Ok(reader.into())
 }
 
 /// A program that needs no more input may have ended: that is no fault.

@@ -7,7 +7,8 @@ use lib.ListN.{length, length-append}
 use types.Run.{miss}
 use borrow.Author.Needs.{needs}
 use Rattle.text.specs.Text.{ascii}
-use Rattle.text.proofs.Written.{length-written, end-fits, leads-from, leads-then}
+use Rattle.text.proofs.Written.{length-written, end-fits}
+use Rattle.text.proofs.Wrote.{puts, puts-all, _then_}
 use Rattle.run.specs.declared.Run.{Run}
 use Rattle.run.specs.declared.Stage.{Stage}
 use Rattle.run.specs.declared.Stage.the-variants.{TableNames, TableRow, StepNames, Steps, NoTable}
@@ -76,8 +77,7 @@ returns c =
     let g = p .before .before .before .before .before .before .before in
     let a = g .args in
     let room : a .at + length (names ++ rows (a .run) (a .records .now)) ≤ length (a .out .now) = simp length-append (omega (arith, g .pre, g .good, slots-length (a .run .config) (delivering (a .run .config) (a .records .now)))) in
-    let l = leads-then names (rows (a .run) (a .records .now)) (leads-from (a .at) (names ++ rows (a .run) (a .records .now)) (a .out .now) room) (p .put .ensures .0) (p .put .ensures .1) in
-    rw (closing-steps (a .run) (a .records .now) (p .before .before .before .enum-told .given .1)) (s .0 ∙ l .far, s .1 ∙ l .same)
+    rw (closing-steps (a .run) (a .records .now) (p .before .before .before .enum-told .given .1)) ((puts (p .put .ensures) then puts-all s) .wrote room)
 
 slice-aggregate-put-2 : tie.Need-slice-aggregate-put-2
 slice-aggregate-put-2 c = search needs

@@ -10,6 +10,9 @@ use borrow.Author.Needs.{needs}
 use Rattle.run.proofs.end_line.Statement.{statement}
 use Rattle.run.proofs.end_line.Tie as tie
 
+abbrev entry : tie.After-slice-known2 → tie.Start
+entry c = c .before .before .before
+
 enum-told : tie.Need-enum-told
 enum-told c = search needs
 
@@ -21,8 +24,9 @@ moved-requires c κs = search needs
 
 returns : tie.Need-returns
 returns c =
-    let s = c .before .before .before .before .before .before .before .before .args in
-    ends-table-names (s .run) (s .line .now) (s .records .now) (s .at) (s .out .now) (c .before .before .before .enum-told .given .1) true (sym (c .before .before .is-table-names .ensures) ∙ c .before .if1 .taken) _ (c .moved .ensures)
+    let t = c .before .before .before in
+    let s = entry (t .before .before) .args in
+    ends-table-names (s .run) (s .line .now) (s .records .now) (s .at) (s .out .now) (t .enum-told .given .1) true (sym (c .before .before .is-table-names .ensures) ∙ c .before .if1 .taken) _ (c .moved .ensures)
 
 moved-requires-2 : tie.Need-moved-requires-2
 moved-requires-2 c κs = search needs
@@ -53,9 +57,11 @@ same-length-2 c = search needs
 
 returns-2 : tie.Need-returns-2
 returns-2 c =
-    let s = c .before .before .before .before .before .before .before .before .before .before .before .before .before .before .args in
-    let (h, (e, t)) = c .before .before .before .before .«begin» .ensures in
-    ends-step-names (s .run) (s .line .now) (s .records .now) (s .at) (s .out .now) (c .before .before .before .before .before .before .before .before .before .enum-told3 .given .1) (sym (c .before .before .before .before .before .before .before .before .is-step-names .ensures) ∙ c .before .before .before .before .before .before .before .if2 .taken) _ _ _ _ h e t
+    let t = c .before .before .before .before .before .before .before .before .before in
+    let s = entry (t .before .before) .args in
+    let (h, (e, p)) = c .before .before .before .before .«begin» .ensures in
+    ends-step-names (s .run) (s .line .now) (s .records .now) (s .at) (s .out .now) (t .enum-told3 .given .1) (sym (c .before .before .before .before .before .before .before .before .is-step-names .ensures) ∙ c .before .before .before .before .before .before .before .if2 .taken)
+    _ _ _ _ h e p
 
 moved-requires-3 : tie.Need-moved-requires-3
 moved-requires-3 c κs = search needs
@@ -77,9 +83,10 @@ same-length-4 c = search needs
 
 returns-3 : tie.Need-returns-3
 returns-3 c =
-    let s = c .before .before .before .before .before .before .before .before .before .before .before .before .before .before .args in
+    let t = c .before .before .before .before .before .before .before .before .before in
+    let s = entry (t .before .before) .args in
     let (l, (o, r)) = c .before .before .before .before .before .before .play-line .ensures in
-    ends-read (s .run) (s .line .now) (s .records .now) (s .at) (s .out .now) _ _ _ r (l, o) (c .before .before .before .before .before .before .before .before .before .enum-told4 .given .1) _ (c .stepped .ensures) (c .before .if3 .taken)
+    ends-read (s .run) (s .line .now) (s .records .now) (s .at) (s .out .now) _ _ _ r (l, o) (t .enum-told4 .given .1) _ (c .stepped .ensures) (c .before .if3 .taken)
 
 print-unread-requires : tie.Need-print-unread-requires
 print-unread-requires c κs = search needs
@@ -95,18 +102,21 @@ moved-requires-4 c κs = search needs
 
 returns-4 : tie.Need-returns-4
 returns-4 c =
-    let s = c .before .before .before .before .before .before .before .before .args in
-    ends-table-names (s .run) (s .line .now) (s .records .now) (s .at) (s .out .now) (c .before .before .before .enum-told .given .1) false (sym (c .before .before .is-table-names .ensures) ∙ c .before .if1 .left) _ (c .moved2 .ensures)
+    let t = c .before .before .before in
+    let s = entry (t .before .before) .args in
+    ends-table-names (s .run) (s .line .now) (s .records .now) (s .at) (s .out .now) (t .enum-told .given .1) false (sym (c .before .before .is-table-names .ensures) ∙ c .before .if1 .left) _ (c .moved2 .ensures)
 
 returns-5 : tie.Need-returns-5
 returns-5 c =
-    let s = c .before .before .before .before .before .before .before .args in
-    ends-table (s .run) (s .line .now) (s .records .now) (s .at) (s .out .now) (c .before .before .enum-told2 .given .1) _ (c .before .read-table .ensures) _ (c .tabled .ensures)
+    let t = c .before .before in
+    let s = entry (t .before .before) .args in
+    ends-table (s .run) (s .line .now) (s .records .now) (s .at) (s .out .now) (t .enum-told2 .given .1) _ (c .before .read-table .ensures) _ (c .tabled .ensures)
 
 returns-6 : tie.Need-returns-6
 returns-6 c =
-    let s = c .before .before .before .before .before .before .before .before .args in
-    ends-other-names (s .run) (s .line .now) (s .records .now) (s .at) (s .out .now) (c .before .before .before .enum-told3 .given .1) (sym (c .before .before .is-step-names .ensures) ∙ c .before .if2 .left) _ (c .moved3 .ensures)
+    let t = c .before .before .before in
+    let s = entry (t .before .before) .args in
+    ends-other-names (s .run) (s .line .now) (s .records .now) (s .at) (s .out .now) (t .enum-told3 .given .1) (sym (c .before .before .is-step-names .ensures) ∙ c .before .if2 .left) _ (c .moved3 .ensures)
 
 same-length-5 : tie.Need-same-length-5
 same-length-5 c = search needs
@@ -116,15 +126,18 @@ same-length-6 c = search needs
 
 returns-7 : tie.Need-returns-7
 returns-7 c =
-    let s = c .before .before .before .before .before .before .before .before .before .before .before .before .before .before .before .before .before .before .args in
+    let t = c .before .before .before .before .before .before .before .before .before .before .before .before .before in
+    let s = entry (t .before .before) .args in
     let room : s .at + rowSpace ≤ length (s .out .now) = omega arith in
     let (l, (o, r)) = c .before .before .before .before .before .before .before .before .before .before .play-line .ensures in
-    ends-unread (s .run) (s .line .now) (s .records .now) (s .at) (s .out .now) _ _ _ r (l, o) (c .before .before .before .before .before .before .before .before .before .before .before .before .before .enum-told4 .given .1) _ (c .stepped2 .ensures) (c .before .before .before .before .before .if3 .left) room _ _ (c .before .before .before .print-unread .ensures .0) (c .before .before .before .print-unread .ensures .1)
+    let (k, w) = c .before .before .before .print-unread .ensures in
+    ends-unread (s .run) (s .line .now) (s .records .now) (s .at) (s .out .now) _ _ _ r (l, o) (t .enum-told4 .given .1) _ (c .stepped2 .ensures) (c .before .before .before .before .before .if3 .left) room _ _ k w
 
 returns-8 : tie.Need-returns-8
 returns-8 c =
-    let s = c .before .before .before .before .before .before .args in
-    ends-no-table (s .run) (s .line .now) (s .records .now) (s .at) (s .out .now) (c .before .enum-told5 .given .1) _ (c .moved4 .ensures)
+    let t = c .before in
+    let s = entry (t .before .before) .args in
+    ends-no-table (s .run) (s .line .now) (s .records .now) (s .at) (s .out .now) (t .enum-told5 .given .1) _ (c .moved4 .ensures)
 
 pub end-line-spec : {M : Type 1} → statement M
 end-line-spec =

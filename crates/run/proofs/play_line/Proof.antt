@@ -2,22 +2,20 @@
 use mathlib.Core.Path.{_≡_, refl, sym, ap, _∙_}
 use mathlib.Core.List.{List, [], _++_}
 use Prim.Native.Nat.{ℕ, _+_, _-_, _*_, _≤_}
-use native.Mathlib.Nat.{add-zero}
 use native.Mathlib.Omega.{arith}
 use lib.ListN.{length, take, drop}
 use Rattle.config.specs.declared.Config.{Config}
 use Rattle.config.specs.Config.{recordsSize}
-use Rattle.text.proofs.Written.{written-empty}
 use Rattle.row.specs.declared.Row.the-variants.{At}
 use Rattle.row.specs.declared.Step.{Step}
 use Rattle.row.specs.Row.{rowIn}
 use Rattle.row.proofs.Lengths.{row-node}
 use Rattle.step.specs.declared.Answer.{Answer}
-use Rattle.step.specs.Step.{atNode, recordsBy, rowSpace, Answers, answered, actBy, stepText, printedEnd, printedOver}
+use Rattle.step.specs.Step.{atNode, recordsBy, rowSpace, Answers, answered, actBy, stepText}
 use Rattle.step.proofs.Answers.{answers-says, answers-act}
 use Rattle.run.specs.Stream.{nodeSpace, recordsSpace, nodes, Progress, known, rowText, rowRecords}
 use Rattle.run.proofs.Rooms.{node-room, part-at, part-put}
-use Rattle.run.proofs.Printed.{printed-fits}
+use Rattle.run.proofs.Printed.{prints-none, prints-as, printed-fits}
 use borrow.Author.Needs.{needs}
 use Rattle.run.proofs.play_line.Statement.{statement}
 use Rattle.run.proofs.play_line.Tie as tie
@@ -37,27 +35,39 @@ module _ (p : Progress) (own : Config) (size node : ℕ) (step : Step) (at-node 
   row-put new e =
       part-put (p .config) node size long (p .records) new ∙ rw (e, at-node, part-at (p .config) node size long (p .records))
 
--- what is known where the row is read, and where it is not
+-- ---- what is known where a row is read
+
+abbrev entry : tie.After-read-row → tie.Start
+entry c = c .before .before .before .before .before .before
+
 abbrev line : tie.After-read-row → List ℕ
-line c = c .before .before .before .before .before .before .args .line .now
+line c = entry c .args .line .now
 
-abbrev progressed : tie.After-read-row → Progress
-progressed c = known (c .before .before .before .before .before .before .args .run) [] (c .before .before .before .before .before .before .args .records .now)
+abbrev at-first : tie.After-read-row → Progress
+at-first c = known (entry c .args .run) [] (entry c .args .records .now)
 
-row-known : (c : tie.After-read-row) → c .read-row .result ≡ rowIn (nodes (progressed c .config)) (line c)
+row-known : (c : tie.After-read-row) → c .read-row .result ≡ rowIn (nodes (at-first c .config)) (line c)
 unfolding known
 row-known c = c .read-row .ensures ∙ ap (λ (n : ℕ). rowIn n (line c)) (c .before .nodes .ensures)
+
+abbrev reading : tie.After-known-told → tie.After-read-row
+reading c = c .before .before .before
 
 abbrev node : tie.After-known-told → ℕ
 node c = c .before .row .given .0 .0
 
-read : (c : tie.After-known-told) → rowIn (nodes (progressed (c .before .before .before) .config)) (line (c .before .before .before)) ≡ At (node c) (c .before .row .given .0 .1 .0)
-read c = sym (row-known (c .before .before .before)) ∙ c .before .row .given .1
+abbrev played : tie.After-known-told → Step
+played c = c .before .row .given .0 .1 .0
+
+read : (c : tie.After-known-told) → rowIn (nodes (at-first (reading c) .config)) (line (reading c)) ≡ At (node c) (played c)
+read c = sym (row-known (reading c)) ∙ c .before .row .given .1
 
 -- the node's records lie within the buffer
 bounded : (c : tie.After-records-size) → nodeSpace * node (c .before) + c .records-size .result ≤ recordsSpace
 unfolding known
-bounded c = node-room _ _ _ _ refl (c .records-size .ensures) (row-node _ (line (c .before .before .before .before)) (node (c .before)) _ (read (c .before)))
+bounded c = node-room _ _ _ _ refl (c .records-size .ensures) (row-node _ (line (reading (c .before))) (node (c .before)) _ (read (c .before)))
+
+-- ---- the needs
 
 nodes-requires : tie.Need-nodes-requires
 nodes-requires c κs = search needs
@@ -104,8 +114,9 @@ print-requires c κs = search needs
 returns : tie.Need-returns
 unfolding known
 returns c =
-    let s = c .before .before .before .before .before .before .before .before in
-    rw (sym (row-known (c .before .before)) ∙ c .enum-told .given .1) (sym (add-zero (s .args .at)), (sym (written-empty (s .args .at) (s .args .out .now)), refl))
+    let s = entry (c .before .before) .args in
+    let (l, o) = prints-none (s .at) (s .out .now) in
+    rw (sym (row-known (c .before .before)) ∙ c .enum-told .given .1) (l, (o, refl))
 
 same-length : tie.Need-same-length
 same-length c = search needs
@@ -117,21 +128,15 @@ returns-2 : tie.Need-returns-2
 unfolding known
 returns-2 c =
     let p = c .before .before .before .before .before .before .before .before .before .before in
-    let s = p .before .before .before .before .before .before .before .before .before in
-    let q = progressed (p .before .before .before) in
+    let s = entry (reading p) .args in
     let at-node = c .before .before .before .before .before .before .before .before .at-node .ensures in
     let long = c .before .before .before .before .before .before .before .before .before .records-size .ensures in
     let (says, left) = c .before .before .before .before .before .before .play .ensures in
-    let text = row-printed q _ _ (node p) (p .before .row .given .0 .1 .0) at-node long _ says in
-    let room : s .args .at + rowSpace ≤ length (s .args .out .now) = omega arith in
-    let (e, o) = printed-fits (s .args .at) (rowText q (At (node p) (p .before .row .given .0 .1 .0))) (s .args .out .now) room in
-    rw (read p) (
-      c .before .before .print .ensures .0 ∙ ap (λ (row : List ℕ). printedEnd (s .args .at) row (s .args .out .now)) text ∙ e,
-      (
-        c .before .before .print .ensures .1 ∙ ap (λ (row : List ℕ). printedOver (s .args .at) row (s .args .out .now)) text ∙ o,
-        row-put q _ _ (node p) (p .before .row .given .0 .1 .0) at-node long _ left,
-      ),
-    )
+    let (k, w) = c .before .before .print .ensures in
+    let room : s .at + rowSpace ≤ length (s .out .now) = omega arith in
+    let (end, fits) = printed-fits (s .at) _ (s .out .now) room in
+    let (l, o) = prints-as (s .at) (s .out .now) (row-printed (at-first (reading p)) _ _ (node p) (played p) at-node long _ says) (k ∙ end, w ∙ fits) in
+    rw (read p) (l, (o, row-put (at-first (reading p)) _ _ (node p) (played p) at-node long _ left))
 
 pub play-line-spec : {M : Type 1} → statement M
 play-line-spec =

@@ -1,13 +1,14 @@
 -- `slot` meets its contract: eight texts written one after the other are one. Assumes nothing.
 use mathlib.Core.Path.{_≡_, sym, ap, _∙_}
-use mathlib.Core.List.{List, _++_}
+use mathlib.Core.List.{List}
 use Prim.Native.Nat.{ℕ, _+_}
 use native.Mathlib.Nat.{add-zero}
 use native.Mathlib.Omega.{arith}
 use lib.ListN.{length}
 use borrow.Author.Needs.{needs}
-use Rattle.text.specs.Text.{ascii, decimal, written}
-use Rattle.text.proofs.Written.{written-empty, length-written, leads-from, leads-then, leads-all}
+use Rattle.text.specs.Text.{ascii, written}
+use Rattle.text.proofs.Written.{written-empty, length-written}
+use Rattle.text.proofs.Wrote.{puts, _then_}
 use Rattle.run.specs.Run.{slotText}
 use Rattle.run.proofs.Lengths.{slotRow, row-length, slot-row}
 use Rattle.run.proofs.slot.Statement.{statement}
@@ -39,23 +40,15 @@ row-written c =
     let p1 = d2 .before .before .before .before in
     let d1 = p1 .before .before .before .before .before in
     let a = given c .args in
-    let p = d4 .before .before .percent .result in
-    let l0 = leads-from (a .at) (row c) (a .out .now) (omega (arith, given c .pre, row-length (a .sender) (a .seq) (a .units) p)) in
-    let t7 : List ℕ = ascii "\n" in
-    let t6 : List ℕ = decimal p ++ t7 in
-    let t5 : List ℕ = ascii " " ++ t6 in
-    let t4 : List ℕ = decimal (a .units) ++ t5 in
-    let t3 : List ℕ = ascii " " ++ t4 in
-    let t2 : List ℕ = decimal (a .seq) ++ t3 in
-    let t1 : List ℕ = ascii " " ++ t2 in
-    let l1 = leads-then (decimal (a .sender)) t1 l0 (d1 .decimal .ensures .0) (d1 .decimal .ensures .1) in
-    let l2 = leads-then (ascii " ") t2 l1 (p1 .put .ensures .0) (p1 .put .ensures .1) in
-    let l3 = leads-then (decimal (a .seq)) t3 l2 (d2 .decimal2 .ensures .0) (d2 .decimal2 .ensures .1) in
-    let l4 = leads-then (ascii " ") t4 l3 (p2 .put2 .ensures .0) (p2 .put2 .ensures .1) in
-    let l5 = leads-then (decimal (a .units)) t5 l4 (d3 .decimal3 .ensures .0) (d3 .decimal3 .ensures .1) in
-    let l6 = leads-then (ascii " ") t6 l5 (p3 .put3 .ensures .0) (p3 .put3 .ensures .1) in
-    let l7 = leads-then (decimal p) t7 l6 (d4 .decimal4 .ensures .0) (d4 .decimal4 .ensures .1) in
-    leads-all t7 l7 (c .put4 .ensures .0) (c .put4 .ensures .1)
+    (puts (d1 .decimal .ensures)
+    then puts (p1 .put .ensures)
+    then puts (d2 .decimal2 .ensures)
+    then puts (p2 .put2 .ensures)
+    then puts (d3 .decimal3 .ensures)
+    then puts (p3 .put3 .ensures)
+    then puts (d4 .decimal4 .ensures)
+    then puts (c .put4 .ensures))
+    .wrote (omega (arith, given c .pre, row-length (a .sender) (a .seq) (a .units) (d4 .before .before .percent .result)))
 
 -- and the row is that of the slot
 row-is : (c : tie.After-put4) → slotText (given c .args .n) (given c .args .sender) (given c .args .seq) (given c .args .units) ≡ row c

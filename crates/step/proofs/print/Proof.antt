@@ -4,7 +4,8 @@ use native.Mathlib.Omega.{arith}
 use borrow.Author.Needs.{needs}
 use Rattle.text.specs.Text.{ascii}
 use Rattle.step.specs.Step.{answered, actBy, stepText}
-use Rattle.step.proofs.Wrote.{puts, puts-all, _then_, printed, printed-not}
+use Rattle.text.proofs.Wrote.{puts, puts-all, _then_}
+use Rattle.step.proofs.Wrote.{printed, printed-not}
 use Rattle.step.proofs.Answers.{act-by-length, front-room, step-length}
 use Rattle.step.proofs.print.Statement.{statement}
 use Rattle.step.proofs.print.Tie as tie

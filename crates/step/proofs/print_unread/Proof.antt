@@ -3,7 +3,8 @@ use native.Mathlib.Omega.{arith}
 use borrow.Author.Needs.{needs}
 use Rattle.text.specs.Text.{ascii}
 use Rattle.step.specs.Step.{unreadText}
-use Rattle.step.proofs.Wrote.{puts, _then_, printed, printed-not}
+use Rattle.text.proofs.Wrote.{puts, _then_}
+use Rattle.step.proofs.Wrote.{printed, printed-not}
 use Rattle.step.proofs.Answers.{unread-length}
 use Rattle.step.proofs.print_unread.Statement.{statement}
 use Rattle.step.proofs.print_unread.Tie as tie
