@@ -4,7 +4,6 @@
 use libc::STDERR_FILENO;
 use libc::STDIN_FILENO;
 use libc::STDOUT_FILENO;
-use run::Run;
 
 // A proved loop has to end, and nothing says that an input does. So the loop counts its reads down from a
 // number that no run uses up: at a billion a second this takes 584 years.

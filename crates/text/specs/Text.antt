@@ -1,4 +1,4 @@
--- Document 01, "The run program": fields and numbers of a text, read and written. A text is the list of its bytes, in ASCII.
+-- Document 01, "The run program": lines, fields and numbers of a text, read and written. A text is the list of its bytes, in ASCII.
 -- Assumes nothing.
 use mathlib.Core.Bool.{Bool, true, false, not, cond, _&&_, _||_}
 use mathlib.Core.List.{List, [], _∷_, _++_}

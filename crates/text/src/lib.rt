@@ -10,7 +10,7 @@ ghost use mathlib.Core.List.{_++_};
 ghost use Prim.Native.Nat.{_+_, _≤_};
 ghost use lib.ListN.{length, take, drop};
 ghost use Rattle.octets.specs.Octets.{same as sameBytes};
-ghost use Rattle.text.specs.Text.{before, numberIn, wordIn, decimal as decimalOf, spelled, written, end as endOf};
+ghost use Rattle.text.specs.Text.{before, numberIn, wordIn, decimal as decimalOf, written, end as endOf};
 
 // A field read as a plain number, with how many bytes it has.
 pub enum Number {
