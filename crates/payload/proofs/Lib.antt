@@ -1,0 +1,2 @@
+-- Laws of payloads as values.
+pub mod Laws
