@@ -7,31 +7,31 @@ use Prim.Native.Nat.{ℕ}
 use native.Mathlib.Omega.{arith}
 use borrow.Author.Tests.{eqb-true, eq-eqb, ne-eqb, not-true, not-false}
 use lib.ListN.{length, getD}
-use Rattle.octets.specs.Octets.{part}
 use Rattle.signers.specs.Signers.{member}
 use Rattle.refusal.specs.Outcome.{refused, done, unless}
 use Rattle.refusal.specs.Refusal.{numberOf}
 use Rattle.refusal.proofs.Unique.{number-one, refused-number}
 use Rattle.refusal.proofs.Reasons.{passed, refused-not-done, Clear, pass, stop, done-clear, clear-done, append-clear, clear-append, refused-first, done-first, refused-later, refused-last}
+use Rattle.payload.specs.Payload.{payloadSize}
 use Rattle.config.specs.declared.Config.{Config}
 use Rattle.config.specs.Config.{good}
 use Rattle.bundle.specs.declared.Header.{Header}
 use Rattle.bundle.specs.declared.Reading.{Reading}
 use Rattle.bundle.specs.declared.Reading.the-variants.{Accepted, Refused}
-use Rattle.bundle.specs.Bundle.{readingOf, size, payloadStart, payloadSize, emptyStart, bundleOf, dayOf, headerOf, headerReasons, readReasons, read, payload, payloadPlace, writeReasons, write}
+use Rattle.bundle.specs.Bundle.{readingOf, bundleSize, payloadStart, payloadIn, emptyStart, bundleOf, slotIn, headerIn, headerReasons, readReasons, read, payloadPart, payloadPlace, headerOfDay, writeReasons, write}
 
-pub record Readable (w : Config) (bundle : List ℕ) : Type 0 where
-  pub configured : good w ≡ true
-  pub long : length bundle ≡ size
+pub record Readable (config : Config) (bundle : List ℕ) : Type 0 where
+  pub configured : good config ≡ true
+  pub long : length bundle ≡ bundleSize
   pub sixth : getD bundle 6 0 ≡ 0
   pub seventh : getD bundle 7 0 ≡ 0
-  pub today : dayOf bundle ≡ w .day
-  pub clear : Clear (headerReasons w (headerOf bundle))
+  pub today : slotIn bundle .day ≡ config .day
+  pub clear : Clear (headerReasons config (headerIn bundle))
 
-pub accepted-readable : (w : Config) (bundle : List ℕ) (h : Header) → read w bundle ≡ done h → Readable w bundle × (headerOf bundle ≡ h)
+pub accepted-readable : (config : Config) (bundle : List ℕ) (h : Header) → read config bundle ≡ done h → Readable config bundle × (headerIn bundle ≡ h)
 unfolding read readReasons
-accepted-readable w bundle h e =
-    let (clear, same) = done-clear (readReasons w bundle) (headerOf bundle) h e in
+accepted-readable config bundle h e =
+    let (clear, same) = done-clear (readReasons config bundle) (headerIn bundle) h e in
     let reserved = and-eq-true-iff _ _ .0 (not-false _ (clear .1 .1 .0)) in (
       record {
         configured = not-false _ (clear .0);
@@ -44,10 +44,10 @@ accepted-readable w bundle h e =
       same,
     )
 
-pub readable-accepted : (w : Config) (bundle : List ℕ) → Readable w bundle → read w bundle ≡ done (headerOf bundle)
+pub readable-accepted : (config : Config) (bundle : List ℕ) → Readable config bundle → read config bundle ≡ done (headerIn bundle)
 unfolding read readReasons
-readable-accepted w bundle r =
-    clear-done (readReasons w bundle) (headerOf bundle) (
+readable-accepted config bundle r =
+    clear-done (readReasons config bundle) (headerIn bundle) (
       passed (r .configured),
       (
         passed (eq-eqb _ _ (r .long)),
@@ -66,71 +66,79 @@ reading-one (Refused r) (Accepted k) e = absurd (refused-not-done (numberOf r) k
 reading-one (Refused r) (Refused s) e = ap Refused (number-one r s (refused-number (numberOf r) (numberOf s) e))
 
 -- the payload of an accepted bundle is its last 16 bytes; of a refused one, the empty part at its start
-module _ (w : Config) (bundle : List ℕ) where
-  pub accepted-payload : (h : Header) → read w bundle ≡ done h → (payload w bundle ≡ part payloadStart payloadSize bundle) × (payloadPlace w bundle ≡ payloadStart)
-  unfolding payload payloadPlace
+module _ (config : Config) (bundle : List ℕ) where
+  pub accepted-payload : (h : Header) → read config bundle ≡ done h → (payloadPart config bundle ≡ payloadIn bundle) × (payloadPlace config bundle ≡ payloadStart)
+  unfolding payloadPart payloadPlace
   accepted-payload h e = (rw e, rw e)
 
-  pub refused-payload : (number : ℕ) → read w bundle ≡ refused number → (payload w bundle ≡ []) × (payloadPlace w bundle ≡ emptyStart)
-  unfolding payload payloadPlace
+  pub refused-payload : (number : ℕ) → read config bundle ≡ refused number → (payloadPart config bundle ≡ []) × (payloadPlace config bundle ≡ emptyStart)
+  unfolding payloadPart payloadPlace
   refused-payload number e = (rw e, rw e)
 
-pub record Writable (w : Config) (h : Header) (payload out : List ℕ) : Type 0 where
-  pub configured : good w ≡ true
-  pub clear : Clear (headerReasons w h)
-  pub whole : length payload ≡ payloadSize
-  pub room : length out ≡ size
+-- ---- writing
 
-pub written-writable : (w : Config) (h : Header) (payload out bytes : List ℕ) → write w h payload out ≡ done bytes
-    → Writable w h payload out × (bundleOf (w .day) h payload ≡ bytes)
-unfolding write writeReasons
-written-writable w h payload out bytes e =
-    let (clear, same) = done-clear (writeReasons w h payload out) (bundleOf (w .day) h payload) bytes e in
-    let (header, lengths) = append-clear (headerReasons w h) _ (clear .1) in (
-      record {
-        configured = not-false _ (clear .0);
-        clear = header;
-        whole = eqb-true _ _ (not-false _ (lengths .0));
-        room = eqb-true _ _ (not-false _ (lengths .1 .0));
-      },
-      same,
-    )
+module _ (config : Config) (sender seq signers : ℕ) (payload out : List ℕ) where
+  -- what is written
+  abbrev header : Header
+  header = headerOfDay config sender seq signers
 
-pub writable-written : (w : Config) (h : Header) (payload out : List ℕ) → Writable w h payload out → write w h payload out ≡ done (bundleOf (w .day) h payload)
-unfolding write writeReasons
-writable-written w h payload out r =
-    clear-done (writeReasons w h payload out) (bundleOf (w .day) h payload) (
-      passed (r .configured),
-      clear-append (headerReasons w h) _ (r .clear)
-          (passed (eq-eqb _ _ (r .whole)), (passed (eq-eqb _ _ (r .room)), tt)),
-    )
+  -- what writing asks for
+  pub record Writable : Type 0 where
+    pub configured : good config ≡ true
+    pub clear : Clear (headerReasons config header)
+    pub whole : length payload ≡ payloadSize
+    pub room : length out ≡ bundleSize
 
--- why writing refuses, in the order of its checks
-module _ (w : Config) (h : Header) (payload out : List ℕ) where
-  pub write-unconfigured : good w ≡ false → write w h payload out ≡ refused 1
+  pub written-writable : (bytes : List ℕ) → write config sender seq signers payload out ≡ done bytes → Writable × (bundleOf header payload ≡ bytes)
+  unfolding write writeReasons
+  written-writable bytes e =
+      let (clear, same) = done-clear (writeReasons config sender seq signers payload out) (bundleOf header payload) bytes e in
+      let (fine, lengths) = append-clear (headerReasons config header) _ (clear .1) in (
+        record {
+          configured = not-false _ (clear .0);
+          clear = fine;
+          whole = eqb-true _ _ (not-false _ (lengths .0));
+          room = eqb-true _ _ (not-false _ (lengths .1 .0));
+        },
+        same,
+      )
+
+  pub writable-written : Writable → write config sender seq signers payload out ≡ done (bundleOf header payload)
+  unfolding write writeReasons
+  writable-written r =
+      clear-done (writeReasons config sender seq signers payload out) (bundleOf header payload) (
+        passed (r .configured),
+        clear-append (headerReasons config header) _ (r .clear) (passed (eq-eqb _ _ (r .whole)), (passed (eq-eqb _ _ (r .room)), tt)),
+      )
+
+  -- why writing refuses, in the order of its checks
+  pub write-unconfigured : good config ≡ false → write config sender seq signers payload out ≡ refused 1
   unfolding write writeReasons
   write-unconfigured e = stop 1 _ _ (rw e)
 
-  pub write-header : (number : ℕ) → good w ≡ true → unless {A = Unit} (headerReasons w h) tt ≡ refused number → write w h payload out ≡ refused number
+  pub write-header : (number : ℕ) → good config ≡ true → unless {A = Unit} (headerReasons config header) tt ≡ refused number
+      → write config sender seq signers payload out ≡ refused number
   unfolding write writeReasons
-  write-header number g e = pass 1 _ _ (passed g) ∙ refused-first _ _ _ (headerReasons w h) number e
+  write-header number g e = pass 1 _ _ (passed g) ∙ refused-first _ _ _ (headerReasons config header) number e
 
-  pub write-payload : good w ≡ true → unless {A = Unit} (headerReasons w h) tt ≡ done tt → (length payload ≡ payloadSize → ⊥) → write w h payload out ≡ refused 9
+  pub write-payload : good config ≡ true → unless {A = Unit} (headerReasons config header) tt ≡ done tt → (length payload ≡ payloadSize → ⊥)
+      → write config sender seq signers payload out ≡ refused 9
   unfolding write writeReasons
-  write-payload g e l = pass 1 _ _ (passed g) ∙ done-first _ _ _ (headerReasons w h) tt e ∙ stop 9 _ _ (rw (ne-eqb _ _ l))
+  write-payload g e l = pass 1 _ _ (passed g) ∙ done-first _ _ _ (headerReasons config header) tt e ∙ stop 9 _ _ (rw (ne-eqb _ _ l))
 
-  pub write-out : good w ≡ true → unless {A = Unit} (headerReasons w h) tt ≡ done tt → length payload ≡ payloadSize → (length out ≡ size → ⊥) → write w h payload out ≡ refused 10
+  pub write-out : good config ≡ true → unless {A = Unit} (headerReasons config header) tt ≡ done tt → length payload ≡ payloadSize → (length out ≡ bundleSize → ⊥)
+      → write config sender seq signers payload out ≡ refused 10
   unfolding write writeReasons
   write-out g e l r =
       pass 1 _ _ (passed g)
-      ∙ done-first _ _ _ (headerReasons w h) tt e
+      ∙ done-first _ _ _ (headerReasons config header) tt e
       ∙ pass 9 _ _ (passed (eq-eqb _ _ l))
       ∙ stop 10 _ _ (rw (ne-eqb _ _ r))
 
 -- a bundle that reading refuses by 8 lacks its sender's signature
-pub unsigned-says : (w : Config) (bundle : List ℕ) → read w bundle ≡ refused 8 → member (headerOf bundle .signers) (headerOf bundle .sender) ≡ false
+pub unsigned-says : (config : Config) (bundle : List ℕ) → read config bundle ≡ refused 8 → member (headerIn bundle .signers) (headerIn bundle .sender) ≡ false
 unfolding read readReasons headerReasons
-unsigned-says w bundle e =
+unsigned-says config bundle e =
     not-true _
     (refused-last 8 _ _
     (refused-later 7 8 _ _ _ (λ q. omega arith)

@@ -12,9 +12,9 @@ use Rattle.refusal.specs.Outcome.{done}
 use Rattle.config.specs.declared.Config.{Config}
 use Rattle.config.specs.Config.{good}
 use Rattle.bundle.specs.declared.Header.{Header}
-use Rattle.bundle.specs.Bundle.{size, read, payload, write}
+use Rattle.bundle.specs.Bundle.{bundleSize, read, payloadPart, headerOfDay, write}
 
--- Two nodes that hand each other bundles: the second's table is good and has the first's n and day. Own number, t and d may differ.
+-- Two nodes that send each other bundles: the second's configuration is good and has the first's n and day. Own number, t and d may differ.
 pub record Peers (first second : Config) : Type 0 where
   pub configured : good second ≡ true
   pub nodes : second .n ≡ first .n
@@ -23,13 +23,13 @@ pub record Peers (first second : Config) : Type 0 where
 -- "Fields written as a bundle read back the same,"
 abbrev pub WrittenReadsBack : Type 0
 WrittenReadsBack =
-    (w r : Config) (h : Header) (content out bundle : List ℕ) → Peers w r → w .day < 2 ^ 32
-    → write w h content out ≡ done bundle
-    → (read r bundle ≡ done h) × (payload r bundle ≡ content)
+    (writer reader : Config) (sender seq signers : ℕ) (payload out bundle : List ℕ) → Peers writer reader → writer .day < 2 ^ 32
+    → write writer sender seq signers payload out ≡ done bundle
+    → (read reader bundle ≡ done (headerOfDay writer sender seq signers)) × (payloadPart reader bundle ≡ payload)
 
 -- "and an accepted bundle read and written again has the same 32 bytes."
 abbrev pub AcceptedWritesBack : Type 0
 AcceptedWritesBack =
-    (r w : Config) (h : Header) (bundle out : List ℕ) → Peers r w → Bytes bundle → length out ≡ size
-    → read r bundle ≡ done h
-    → write w h (payload r bundle) out ≡ done bundle
+    (reader writer : Config) (h : Header) (bundle out : List ℕ) → Peers reader writer → Bytes bundle → length out ≡ bundleSize
+    → read reader bundle ≡ done h
+    → write writer (h .sender) (h .seq) (h .signers) (payloadPart reader bundle) out ≡ done bundle

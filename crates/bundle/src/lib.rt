@@ -1,28 +1,30 @@
-// Reading and writing a bundle: the 32 bytes in which nodes hand each other a signed payload.
+// Reading and writing a bundle: the 32 bytes in which nodes send each other a signed payload.
 //
 // Every call is defined for all bytes, lengths and numbers, and refuses by the first reason of
 // document 01 that applies.
 use config::Config;
+use payload::Payload;
 use refusal::Refusal;
 use refusal::Verdict;
 ghost use mathlib.Core.Path.{_≡_};
 ghost use mathlib.Core.Bool.{true};
-ghost use mathlib.Core.List.{_++_};
-ghost use Rattle.octets.specs.Octets.{bytesOf, further};
+ghost use Rattle.octets.specs.Octets.{advance};
+ghost use Rattle.payload.specs.Payload.{bytes};
 ghost use Rattle.refusal.specs.Refusal.{verdictOf};
 ghost use Rattle.refusal.specs.Outcome.{unless, after, plain};
 ghost use Rattle.config.specs.Config.{good};
-ghost use Rattle.bundle.specs.Bundle.{encoded, headerReasons, read as readOf, readingOf, payload as payloadOf, payloadPlace, write as writeOf};
+ghost use Rattle.bundle.specs.Bundle.{encoded, headerReasons, read as readOf, readingOf, payloadPart, payloadPlace, payloadLoaded, write as writeOf};
 
 // A bundle's bytes.
 pub const SIZE: usize = 32;
 
-// A payload's bytes, at the end of the bundle.
-pub const PAYLOAD_SIZE: usize = 16;
+// Where in a bundle its payload starts.
+pub const PAYLOAD_AT: usize = 16;
 
-// What a bundle says beside its day and payload: the slot's sender and sequence number, and who
-// signed.
+// What a bundle says beside its payload: its slot, and who signed. The slot's three fields stand side by side:
+// a struct of eight bytes that is passed on is copied as one number, which costs a call ten instructions.
 pub struct Header {
+    pub day: u32,
     pub sender: u8,
     pub seq: u8,
     pub signers: u64,
@@ -43,14 +45,15 @@ pub fn read(config: Config, bundle: &[u8]) -> Reading
     if bundle.len() != SIZE {
         return Reading::Refused(Refusal::BundleLength);
     }
-    let slot = octets::word(&bundle[0..8]);
-    if slot % 0x1_0000 != 0 {
+    let first = octets::word(&bundle[0..8]);
+    if first % 0x1_0000 != 0 {
         return Reading::Refused(Refusal::ReservedBytes);
     }
-    if slot / 0x1_0000_0000 != config.day as u64 {
+    if first / 0x1_0000_0000 != config.day as u64 {
         return Reading::Refused(Refusal::OtherDay);
     }
     let header = Header {
+        day: config.day,
         sender: bundle[4],
         seq: bundle[5],
         signers: octets::word(&bundle[8..16]),
@@ -61,54 +64,71 @@ pub fn read(config: Config, bundle: &[u8]) -> Reading
     }
 }
 
-// The payload as a part of the lent bundle; the empty part at its start where `read` refuses.
+// The payload as a part of the bundle that the caller gave; the empty part at its start where `read` refuses.
 pub fn payload(config: Config, bundle: &[u8]) -> &[u8]
-    ensures { λ r. ⌜ now r ≡ payloadOf config (now (bundle .entry)) ⌝ }
-    ensures { λ r. ⌜ r .ptr ≡ further (payloadPlace config (now (bundle .entry))) (bundle .entry .ptr) ⌝ }
+    ensures { λ r. ⌜ now r ≡ payloadPart config (now (bundle .entry)) ⌝ }
+    ensures { λ r. ⌜ r .ptr ≡ advance (payloadPlace config (now (bundle .entry))) (bundle .entry .ptr) ⌝ }
 {
     match read(config, bundle) {
-        Reading::Accepted(_) => &bundle[16..32],
+        Reading::Accepted(_) => &bundle[PAYLOAD_AT..SIZE],
         Reading::Refused(_) => &bundle[0..0],
     }
 }
 
+// The payload as a value, of a bundle that `read` accepts. For a slice of another length it is the payload of
+// zeros.
+pub fn load_payload(bundle: &[u8]) -> Payload
+    ensures { λ r. ⌜ bytes r ≡ payloadLoaded (now (bundle .entry)) ⌝ }
+{
+    if bundle.len() != SIZE {
+        return Payload { high: 0, low: 0 };
+    }
+    payload::load(&bundle[PAYLOAD_AT..SIZE])
+}
+
 // Writes a bundle of the configuration's day over `out`. A refusal leaves `out` as it is.
-pub fn write(config: Config, header: Header, payload: &[u8], out: &mut [u8]) -> Verdict
-    ensures { λ r. ⌜ verdictOf r ≡ plain (writeOf config header (now (payload .entry)) (now (out .entry))) ⌝ }
-    ensures { λ _. ⌜ now (out .exit) ≡ after (writeOf config header (now (payload .entry)) (now (out .entry))) (λ bytes. bytes) (now (out .entry)) ⌝ }
+pub fn write(
+    config: Config,
+    sender: u8,
+    seq: u8,
+    signers: u64,
+    payload: &[u8],
+    out: &mut [u8],
+) -> Verdict
+    ensures { λ r. ⌜ verdictOf r ≡ plain (writeOf config sender seq signers (now (payload .entry)) (now (out .entry))) ⌝ }
+    ensures { λ _. ⌜ now (out .exit) ≡ after (writeOf config sender seq signers (now (payload .entry)) (now (out .entry))) (λ bytes. bytes) (now (out .entry)) ⌝ }
 {
     if !config.good() {
         return Verdict::Refused(Refusal::BadConfig);
     }
+    let header = Header {
+        day: config.day,
+        sender,
+        seq,
+        signers,
+    };
     let checked = check(config, header);
     if let Verdict::Refused(reason) = checked {
         return Verdict::Refused(reason);
     }
-    if payload.len() != PAYLOAD_SIZE {
+    if payload.len() != payload::SIZE {
         return Verdict::Refused(Refusal::PayloadLength);
     }
     if out.len() != SIZE {
         return Verdict::Refused(Refusal::OutLength);
     }
-    encode(
-        config.day,
-        header,
-        octets::word(&payload[0..8]),
-        octets::word(&payload[8..16]),
-        out,
-    );
+    encode(header, payload::load(payload), out);
     Verdict::Done
 }
 
-// The 32 bytes of a bundle whose payload is given as two words, checked by nobody. A slice of another
-// length stays as it is.
-pub fn encode(day: u32, header: Header, high: u64, low: u64, out: &mut [u8])
-    ensures { λ _. ⌜ now (out .exit) ≡ encoded day header (bytesOf 8 high ++ bytesOf 8 low) (now (out .entry)) ⌝ }
+// The 32 bytes of a bundle, with no field checked. A slice of another length stays as it is.
+pub fn encode(header: Header, payload: Payload, out: &mut [u8])
+    ensures { λ _. ⌜ now (out .exit) ≡ encoded header (bytes payload) (now (out .entry)) ⌝ }
 {
-    let slot = (day as u64) * 0x1_0000_0000
+    let first = (header.day as u64) * 0x1_0000_0000
         + (header.sender as u64) * 0x100_0000
         + (header.seq as u64) * 0x1_0000;
-    octets::fill(out, slot, header.signers, high, low);
+    octets::fill(out, first, header.signers, payload.high, payload.low);
 }
 
 // The refusals that reading and writing share.

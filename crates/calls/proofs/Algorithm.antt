@@ -3,89 +3,92 @@
 use mathlib.Core.Path.{_≡_, refl, sym, ap, _∙_, subst}
 use mathlib.Core.Bool.{true, cond}
 use mathlib.Core.List.{List}
-use Prim.Native.Nat.{ℕ, _<_}
+use Prim.Native.Nat.{ℕ}
 use lib.ListN.{length, replicate}
-use Rattle.octets.specs.Octets.{part}
 use Rattle.octets.proofs.Same.{blank-says}
 use Rattle.refusal.specs.Outcome.{done}
 use Rattle.config.specs.declared.Config.{Config}
-use Rattle.config.specs.Config.{good, quorum, slots, recordSize, recordsSize}
+use Rattle.config.specs.Config.{good, quorum, recordSize, recordsSize, inRange, slotOfDay}
 use Rattle.config.proofs.Laws.{good-says, quorum-strict}
-use Rattle.bundle.specs.Bundle.{payloadStart, payloadSize, headerOf, payload}
+use Rattle.bundle.specs.Bundle.{payloadIn, headerIn, payloadPart, slotOf, slotIn}
 use Rattle.bundle.proofs.Accepted.{unsigned-says}
-use Rattle.protocol.specs.Slot.{Record, Empty, sends, Turn, announcedBy}
+use Rattle.protocol.specs.Update.{Record, Empty, sends, Update, announcedBy}
 use Rattle.protocol.specs.Algorithm as algorithm
-use Rattle.protocol.proofs.Sound.{Sound, sound-bundled, announced-sound}
+use Rattle.protocol.proofs.WellFormed.{WellFormed, well-formed-bundled, announced-well-formed}
 use Rattle.protocol.proofs.Algorithm as values
-use Rattle.record.specs.Record.{image, recordIn}
-use Rattle.record.proofs.Image.{recordIn-image, image-length}
-use Rattle.calls.specs.Records.{recordAt, stored}
+use Rattle.record.specs.Record.{encoding, decoded}
+use Rattle.record.proofs.Encoding.{decoded-encoding, encoding-length}
+use Rattle.config.specs.declared.Slot.{Slot}
+use Rattle.calls.specs.Records.{recordAt, stored, ownSlot}
 use Rattle.calls.specs.Open.{openRecords}
 use Rattle.calls.specs.Receive.{recordBundle, receive, receiveRecords, receiveOut}
-use Rattle.calls.specs.Algorithm.{recordOf, OpenStarts, BroadcastFollows, UnsignedFollows, ReceiveFollows}
+use Rattle.calls.specs.Algorithm.{recordOf, QuorumIsLine9, OpenStarts, BroadcastFollows, UnsignedFollows, ReceiveFollows}
 use Rattle.calls.proofs.Records.{recordAt-length, stored-there, zeros-at}
 use Rattle.calls.proofs.Refusals.{opened-done, broadcast-effect, receive-left, receive-unread, receive-updated}
-use Rattle.calls.proofs.Found.{broadcast-done}
-use Rattle.calls.proofs.Taking.{read-says}
-use Rattle.calls.proofs.Settled.{turn-sound}
+use Rattle.calls.proofs.LowestFree.{broadcast-done}
+use Rattle.calls.proofs.ReceiveFacts.{read-says}
+use Rattle.calls.proofs.Settling.{result-well-formed}
 
 -- zeros write an empty record
-empty-zeros : recordIn (replicate recordSize 0) ≡ Empty
-unfolding recordIn
+empty-zeros : decoded (replicate recordSize 0) ≡ Empty
+unfolding decoded
 empty-zeros = refl
 
--- a sound record that is stored is kept
-record-stored : (w : Config) (records : List ℕ) (sender seq : ℕ) (r : Record) → good w ≡ true → length records ≡ recordsSize w → sender < w .n → seq < slots
-    → Sound (w .n) sender (quorum w) (w .own) r → recordOf w sender seq (stored w sender seq (image r) records) ≡ r
-record-stored w records sender seq r g l hs hk fine =
-    let whole = image-length r (λ some. sound-bundled (w .n) sender (quorum w) (w .own) r some fine .whole) in
-    ap recordIn (stored-there w g records l sender seq hs hk (image r) whole) ∙ recordIn-image (w .n) sender (quorum w) (w .own) (good-says w g .most) r fine
+-- a well-formed record that is stored is kept
+record-stored : (config : Config) (records : List ℕ) (slot : Slot) (r : Record) → good config ≡ true → length records ≡ recordsSize config → inRange config slot ≡ true
+    → WellFormed (config .n) (slot .sender) (quorum config) (config .own) r → recordOf config slot (stored config slot (encoding r) records) ≡ r
+record-stored config records slot r g l range fine =
+    let whole = encoding-length r (λ some. well-formed-bundled (config .n) (slot .sender) (quorum config) (config .own) r some fine .whole) in
+    ap decoded (stored-there config g records l slot range (encoding r) whole) ∙ decoded-encoding (config .n) (slot .sender) (quorum config) (config .own) (good-says config g .most) r fine
+
+pub quorum-is-line9 : QuorumIsLine9
+quorum-is-line9 config k g = quorum-strict config k g
 
 pub open-starts : OpenStarts
 unfolding openRecords
-open-starts w records sender seq g l hs hk =
-    rw (opened-done w records g l, l) (ap recordIn (zeros-at w sender seq g hs hk) ∙ empty-zeros)
+open-starts config records slot g l range =
+    rw (opened-done config records g l, l) (ap decoded (zeros-at config slot g range) ∙ empty-zeros)
 
 pub broadcast-follows : BroadcastFollows
-unfolding announcedBy
-broadcast-follows w content records out seq e =
-    let ok = broadcast-done w content records out seq e in
-    let g = good-says w (ok .configured) in
-    let long = recordAt-length w (ok .configured) records (ok .sized) (w .own) seq (g .known) (ok .slot) in
-    let zeros = blank-says (recordAt w (w .own) seq records) (ok .free) ∙ ap (λ (k : ℕ). replicate k 0) long in
-    let (records-left, out-left) = broadcast-effect w content records out seq e in
-    let (state, effects) = values.broadcast-follows (w .own) content in
+unfolding announcedBy slotOfDay
+broadcast-follows config payload records out seq e =
+    let ok = broadcast-done config payload records out seq e in
+    let g = good-says config (ok .configured) in
+    let long = recordAt-length config (ok .configured) records (ok .sized) (ownSlot config seq) (ok .range) in
+    let zeros = blank-says (recordAt config (ownSlot config seq) records) (ok .free) ∙ ap (λ (k : ℕ). replicate k 0) long in
+    let (records-left, out-left) = broadcast-effect config payload records out seq e in
+    let (state, effects) = values.broadcast-follows (config .own) payload in
     let after =
-    ap (recordOf w (w .own) seq) (sym records-left)
-    ∙ record-stored w records (w .own) seq (announcedBy (w .own) content) (ok .configured) (ok .sized) (g .known) (ok .slot)
-    (announced-sound (w .n) (quorum w) (w .own) content (g .known) (g .most) (ok .whole)) in
-    (ap recordIn zeros ∙ empty-zeros, rw after state, effects, sym out-left)
+    ap (recordOf config (ownSlot config seq)) (sym records-left)
+    ∙ record-stored config records (ownSlot config seq) (announcedBy (config .own) payload) (ok .configured) (ok .sized) (ok .range)
+    (announced-well-formed (config .n) (quorum config) (config .own) payload (g .known) (g .most) (ok .whole)) in
+    (ap decoded zeros ∙ empty-zeros, rw after state, effects, sym out-left)
 
 pub unsigned-follows : UnsignedFollows
-unsigned-follows w bundle records out σ e =
-    let (state, effects) = values.unsigned-ignored (w .n) (w .t) (w .own) (headerOf bundle .sender) (headerOf bundle .signers) (part payloadStart payloadSize bundle) σ
-    (unsigned-says w bundle e) in
-    (receive-unread w bundle records out 8 e, state, effects)
+unsigned-follows config bundle records out σ e =
+    let (state, effects) = values.unsigned-ignored (config .own) (quorum config) (headerIn bundle .sender) (headerIn bundle .signers) (payloadIn bundle) σ
+    (unsigned-says config bundle e) in
+    (receive-unread config bundle records out 8 e, state, effects)
 
 pub receive-follows : ReceiveFollows
-receive-follows w bundle records out h e o l sound =
-    let ok = read-says w bundle h e in
-    let taken = receive-updated w bundle records out h e o l sound in (
-      subst (algorithm.Follows (w .n) (w .t) (w .own) (h .sender) (h .signers) (payload w bundle) (recordOf w (h .sender) (h .seq) records)) (sym taken)
-          (values.update-follows (w .n) (w .t) (w .own) (h .sender) (quorum w) (h .signers) (payload w bundle) (recordOf w (h .sender) (h .seq) records)
-          (λ k. quorum-strict w k (ok .configured)) (ok .bundled .authentic)),
-      λ turn f. (
-        ap (recordOf w (h .sender) (h .seq)) (left turn f (ok .fields))
-            ∙ record-stored w records (h .sender) (h .seq) (turn .after) (ok .configured) l (ok .sender-known) (ok .slot)
-            (turn-sound w bundle records out h e l sound taken turn f .1),
-        written turn f (ok .fields),
+receive-follows config bundle records out h e o l formed =
+    let ok = read-says config bundle h e in
+    let taken = receive-updated config bundle records out h e o l formed in (
+      subst (algorithm.Follows (config .own) (quorum config) (h .sender) (h .signers) (payloadPart config bundle) (recordOf config (slotOf h) records)) (sym taken)
+          (values.update-follows (config .own) (quorum config) (h .sender) (h .signers) (payloadPart config bundle) (recordOf config (slotOf h) records)
+          (ok .bundled .authentic)),
+      λ result f. (
+        ap (recordOf config (slotOf h)) (left result f (ok .slot-named))
+            ∙ record-stored config records (slotOf h) (result .newRecord) (ok .configured) l (ok .range)
+            (result-well-formed config bundle records out h e l formed taken result f .1),
+        written result f (ok .slot-named),
       ),
     )
   where
-    left : (turn : Turn) → receive w bundle records out ≡ done turn → headerOf bundle ≡ h
-        → receiveRecords w bundle records out ≡ stored w (h .sender) (h .seq) (image (turn .after)) records
-    left turn f q = receive-left w bundle records out turn f .0 ∙ rw q
+    left : (result : Update) → receive config bundle records out ≡ done result → slotIn bundle ≡ slotOf h
+        → receiveRecords config bundle records out ≡ stored config (slotOf h) (encoding (result .newRecord)) records
+    left result f q = receive-left config bundle records out result f .0 ∙ rw q
 
-    written : (turn : Turn) → receive w bundle records out ≡ done turn → headerOf bundle ≡ h
-        → receiveOut w bundle records out ≡ cond (sends (turn .answer)) (recordBundle w h (turn .after)) out
-    written turn f q = receive-left w bundle records out turn f .1 ∙ rw q
+    written : (result : Update) → receive config bundle records out ≡ done result → slotIn bundle ≡ slotOf h
+        → receiveOut config bundle records out ≡ cond (sends (result .answer)) (recordBundle (slotOf h) (result .newRecord)) out
+    written result f q = receive-left config bundle records out result f .1 ∙ rw q

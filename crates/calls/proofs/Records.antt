@@ -10,17 +10,14 @@ use native.Mathlib.Omega.{arith}
 use lib.Dec.{ltb}
 use lib.ListN.{length, getD, take, drop, replicate, length-append, length-drop, length-replicate, getD-replicate, List·getD-append}
 use lib.Seq.{ext-getD, getD-take, getD-drop, getD-append-add, length-take-le}
-use borrow.Author.Tests.{ltb-true, ltb-false, lt-ltb}
+use borrow.Author.Tests.{ltb-true, ltb-false}
 use Rattle.octets.specs.Octets.{part}
 use Rattle.octets.proofs.Numbers.{length-part}
 use Rattle.config.specs.declared.Config.{Config}
-use Rattle.config.specs.Config.{good, slots, inRange, offset, place, recordSize, recordsSize}
+use Rattle.config.specs.Config.{good, slots, inRange, slotPlace, place, recordSize, recordsSize}
+use Rattle.config.specs.declared.Slot.{Slot}
+use Rattle.config.proofs.Laws.{place-is, place-room, range-says}
 use Rattle.calls.specs.Records.{recordAt, replaced, stored}
-
--- where a slot's record starts
-pub place-is : (w : Config) (sender seq : ℕ) → good w ≡ true → sender < w .n → seq < slots → place w sender seq ≡ recordSize * (slots * sender + seq)
-unfolding place inRange offset
-place-is w sender seq g hs hk = rw (g, lt-ltb sender (w .n) hs, lt-ltb seq slots hk)
 
 -- a part of a list with other bytes at another place
 module _ (xs bytes : List ℕ) (at k : ℕ) (long : length bytes ≡ k) (room : at + k ≤ length xs) where
@@ -47,10 +44,10 @@ module _ (xs bytes : List ℕ) (at k : ℕ) (long : length bytes ≡ k) (room : 
       ap (λ (j : ℕ). getD pasted (j + i) 0) (sym front) ∙ getD-append-add (take at xs) (bytes ++ drop (at + k) xs) i 0
       ∙ List·getD-append bytes (drop (at + k) xs) 0 i (omega arith)
 
-  -- and behind it
-  pasted-behind : (i : ℕ) → getD pasted (at + k + i) 0 ≡ getD xs (at + k + i) 0
+  -- and after it
+  pasted-after : (i : ℕ) → getD pasted (at + k + i) 0 ≡ getD xs (at + k + i) 0
   unfolding pasted
-  pasted-behind i =
+  pasted-after i =
       let e : at + k + i ≡ length (take at xs) + (length bytes + i) = omega (arith, front) in
       ap (λ (j : ℕ). getD pasted j 0) e
       ∙ getD-append-add (take at xs) (bytes ++ drop (at + k) xs) (length bytes + i) 0
@@ -62,7 +59,7 @@ module _ (xs bytes : List ℕ) (at k : ℕ) (long : length bytes ≡ k) (room : 
   pasted-outside i (inl h) = pasted-before i h
   pasted-outside i (inr h) =
       let e : at + k + (i - (at + k)) ≡ i = omega arith in
-      subst (λ (j : ℕ). getD pasted j 0 ≡ getD xs j 0) e (pasted-behind (i - (at + k)))
+      subst (λ (j : ℕ). getD pasted j 0 ≡ getD xs j 0) e (pasted-after (i - (at + k)))
 
   -- the elements of a part
   part-same : (j m : ℕ) (ys : List ℕ) → j + m ≤ length xs → length ys ≡ m → ((i : ℕ) → i < m → getD pasted (j + i) 0 ≡ getD ys i 0) → part j m pasted ≡ ys
@@ -86,64 +83,76 @@ module _ (xs bytes : List ℕ) (at k : ℕ) (long : length bytes ≡ k) (room : 
       side i small (inr h) = inr (omega arith)
 
 -- a slot in range lies within the buffer
-module _ (w : Config) (g : good w ≡ true) (records : List ℕ) (size : length records ≡ recordsSize w) where
-  place-fits : (sender seq : ℕ) → sender < w .n → seq < slots → place w sender seq + recordSize ≤ length records
-  unfolding recordsSize
-  place-fits sender seq hs hk = omega (arith, place-is w sender seq g hs hk)
+module _ (config : Config) (g : good config ≡ true) (records : List ℕ) (size : length records ≡ recordsSize config) where
+  pub place-fits : (slot : Slot) → inRange config slot ≡ true → place config slot + recordSize ≤ length records
+  place-fits slot range = rw size (place-room config slot g range)
 
-  pub recordAt-length : (sender seq : ℕ) → sender < w .n → seq < slots → length (recordAt w sender seq records) ≡ recordSize
+  pub recordAt-length : (slot : Slot) → inRange config slot ≡ true → length (recordAt config slot records) ≡ recordSize
   unfolding recordAt
-  recordAt-length sender seq hs hk = length-part records (place w sender seq) recordSize (place-fits sender seq hs hk)
+  recordAt-length slot range = length-part records (place config slot) recordSize (place-fits slot range)
 
-  module _ (sender seq : ℕ) (hs : sender < w .n) (hk : seq < slots) (bytes : List ℕ) (long : length bytes ≡ recordSize) where
+  module _ (slot : Slot) (range : inRange config slot ≡ true) (bytes : List ℕ) (long : length bytes ≡ recordSize) where
     -- storing leaves the size,
-    pub stored-length : length (stored w sender seq bytes records) ≡ length records
+    pub stored-length : length (stored config slot bytes records) ≡ length records
     unfolding stored replaced pasted
-    stored-length = pasted-length records bytes (place w sender seq) recordSize long (place-fits sender seq hs hk)
+    stored-length = pasted-length records bytes (place config slot) recordSize long (place-fits slot range)
 
     -- is read back in its slot,
-    pub stored-there : recordAt w sender seq (stored w sender seq bytes records) ≡ bytes
+    pub stored-there : recordAt config slot (stored config slot bytes records) ≡ bytes
     unfolding stored replaced recordAt
-    stored-there = paste-part records bytes (place w sender seq) recordSize long (place-fits sender seq hs hk)
+    stored-there = paste-part records bytes (place config slot) recordSize long (place-fits slot range)
 
     -- leaves every byte outside the record,
-    pub stored-outside : (i : ℕ) → (i < place w sender seq) ⊎ (place w sender seq + recordSize ≤ i)
-        → getD (stored w sender seq bytes records) i 0 ≡ getD records i 0
+    pub stored-outside : (i : ℕ) → (i < place config slot) ⊎ (place config slot + recordSize ≤ i)
+        → getD (stored config slot bytes records) i 0 ≡ getD records i 0
     unfolding stored replaced pasted
-    stored-outside i apart = pasted-outside records bytes (place w sender seq) recordSize long (place-fits sender seq hs hk) i apart
+    stored-outside i apart = pasted-outside records bytes (place config slot) recordSize long (place-fits slot range) i apart
 
     -- and every other slot
-    pub stored-elsewhere : (s k : ℕ) → s < w .n → k < slots → (s ≡ sender → k ≡ seq → ⊥)
-        → recordAt w s k (stored w sender seq bytes records) ≡ recordAt w s k records
+    pub stored-elsewhere : (other : Slot) → inRange config other ≡ true → (other .sender ≡ slot .sender → other .seq ≡ slot .seq → ⊥)
+        → recordAt config other (stored config slot bytes records) ≡ recordAt config other records
     unfolding stored replaced recordAt
-    stored-elsewhere s k ls lk other =
-        paste-other records bytes (place w sender seq) recordSize long (place-fits sender seq hs hk) (place w s k) recordSize (place-fits s k ls lk)
-        (apart (ltb s sender) (ltb sender s) (ltb k seq) (ltb seq k) refl refl refl refl)
+    stored-elsewhere other within differ =
+        paste-other records bytes (place config slot) recordSize long (place-fits slot range) (place config other) recordSize (place-fits other within)
+        (apart (ltb (other .sender) (slot .sender)) (ltb (slot .sender) (other .sender)) (ltb (other .seq) (slot .seq)) (ltb (slot .seq) (other .seq)) refl refl refl refl)
       where
-        apart : (a b c d : Bool) → ltb s sender ≡ a → ltb sender s ≡ b → ltb k seq ≡ c → ltb seq k ≡ d
-            → (place w s k + recordSize ≤ place w sender seq) ⊎ (place w sender seq + recordSize ≤ place w s k)
-        apart true b c d ea eb ec ed = inl (omega (arith, ltb-true s sender ea, place-is w sender seq g hs hk, place-is w s k g ls lk))
-        apart false true c d ea eb ec ed = inr (omega (arith, ltb-true sender s eb, place-is w sender seq g hs hk, place-is w s k g ls lk))
+        here : (place config slot ≡ recordSize * (slots * slot .sender + slot .seq)) × (slot .seq < slots)
+        here = (place-is config slot g range, range-says config slot range .1)
+
+        there : (place config other ≡ recordSize * (slots * other .sender + other .seq)) × (other .seq < slots)
+        there = (place-is config other g within, range-says config other within .1)
+
+        apart : (a b c d : Bool) → ltb (other .sender) (slot .sender) ≡ a → ltb (slot .sender) (other .sender) ≡ b
+            → ltb (other .seq) (slot .seq) ≡ c → ltb (slot .seq) (other .seq) ≡ d
+            → (place config other + recordSize ≤ place config slot) ⊎ (place config slot + recordSize ≤ place config other)
+        apart true b c d ea eb ec ed = inl (omega (arith, ltb-true (other .sender) (slot .sender) ea, here .0, here .1, there .0, there .1))
+        apart false true c d ea eb ec ed = inr (omega (arith, ltb-true (slot .sender) (other .sender) eb, here .0, here .1, there .0, there .1))
         apart false false true d ea eb ec ed =
-            inl (omega (arith, ltb-false s sender ea, ltb-false sender s eb, ltb-true k seq ec, place-is w sender seq g hs hk, place-is w s k g ls lk))
+            inl (omega (arith, ltb-false (other .sender) (slot .sender) ea, ltb-false (slot .sender) (other .sender) eb, ltb-true (other .seq) (slot .seq) ec, here .0, there .0))
         apart false false false true ea eb ec ed =
-            inr (omega (arith, ltb-false s sender ea, ltb-false sender s eb, ltb-true seq k ed, place-is w sender seq g hs hk, place-is w s k g ls lk))
+            inr (omega (arith, ltb-false (other .sender) (slot .sender) ea, ltb-false (slot .sender) (other .sender) eb, ltb-true (slot .seq) (other .seq) ed, here .0, there .0))
         apart false false false false ea eb ec ed =
-            absurd (other (omega (arith, ltb-false s sender ea, ltb-false sender s eb)) (omega (arith, ltb-false k seq ec, ltb-false seq k ed)))
+            absurd (differ (omega (arith, ltb-false (other .sender) (slot .sender) ea, ltb-false (slot .sender) (other .sender) eb)) (omega (arith, ltb-false (other .seq) (slot .seq) ec, ltb-false (slot .seq) (other .seq) ed)))
+
+-- slots of one sender and number have one record among those of a day
+pub same-place : (config : Config) (first second : Slot) → first .sender ≡ second .sender → first .seq ≡ second .seq
+    → (records : List ℕ) → recordAt config first records ≡ recordAt config second records
+unfolding recordAt place slotPlace inRange
+same-place config first second s k records = rw (s, k)
 
 -- in a buffer of zeros every record is zeros
-pub zeros-at : (w : Config) (sender seq : ℕ) → good w ≡ true → sender < w .n → seq < slots
-    → recordAt w sender seq (replicate (recordsSize w) 0) ≡ replicate recordSize 0
-unfolding recordAt recordsSize
-zeros-at w sender seq g hs hk =
-    let zeros : List ℕ = replicate (recordSize * slots * w .n) 0 in
-    let size : length zeros ≡ recordSize * slots * w .n = length-replicate {A = ℕ} (recordSize * slots * w .n) 0 in
-    let at : ℕ = place w sender seq in
-    let fit : at + recordSize ≤ recordSize * slots * w .n = omega (arith, place-is w sender seq g hs hk) in
+pub zeros-at : (config : Config) (slot : Slot) → good config ≡ true → inRange config slot ≡ true
+    → recordAt config slot (replicate (recordsSize config) 0) ≡ replicate recordSize 0
+unfolding recordAt
+zeros-at config slot g range =
+    let zeros : List ℕ = replicate (recordsSize config) 0 in
+    let size : length zeros ≡ recordsSize config = length-replicate {A = ℕ} (recordsSize config) 0 in
+    let at : ℕ = place config slot in
+    let fit : at + recordSize ≤ recordsSize config = place-room config slot g range in
     let long = length-part zeros at recordSize (omega arith) in
     ext-getD 0 (part at recordSize zeros) (replicate recordSize 0) long
     (λ i small.
     getD-take recordSize (drop at zeros) i 0 (omega arith)
     ∙ getD-drop at zeros i 0
-    ∙ getD-replicate (recordSize * slots * w .n) (at + i) 0 0 (omega arith)
+    ∙ getD-replicate (recordsSize config) (at + i) 0 0 (omega arith)
     ∙ sym (getD-replicate recordSize i 0 0 (omega arith)))

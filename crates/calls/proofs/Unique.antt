@@ -7,7 +7,7 @@ use lib.Count.{ones}
 use Rattle.signers.proofs.Members.{nobody, size-insert}
 use Rattle.refusal.specs.Outcome.{Outcome, refused, done}
 use Rattle.refusal.proofs.Unique.{reasonOf, found}
-use Rattle.protocol.specs.Slot.{Answer, announced, kept, signed, delivered, announcedBy}
+use Rattle.protocol.specs.Update.{Answer, announced, kept, signed, delivered, announcedBy}
 use Rattle.calls.specs.Broadcast.{announcementOf, AnnouncedCounts}
 use Rattle.calls.specs.Receive.{receiptOf}
 use Rattle.calls.specs.declared.Announcement as Announcement

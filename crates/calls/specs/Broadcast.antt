@@ -12,47 +12,48 @@ use Rattle.signers.specs.Signers as signers
 use Rattle.signers.specs.Signers.{insert}
 use Rattle.refusal.specs.Refusal.{numberOf}
 use Rattle.refusal.specs.Outcome.{Outcome, refused, done, Reason, _if_, after, checked, _and-then_}
+use Rattle.payload.specs.Payload.{payloadSize}
 use Rattle.config.specs.declared.Config.{Config}
 use Rattle.config.specs.Config.{good, slots}
 use Rattle.bundle.specs.declared.Header.{Header}
-use Rattle.bundle.specs.Bundle.{size, payloadSize, bundleOf}
-use Rattle.protocol.specs.Slot.{signersOf, announcedBy}
-use Rattle.record.specs.Record.{image, wellFormed}
-use Rattle.calls.specs.Records.{recordAt, stored, wrongSize}
+use Rattle.bundle.specs.Bundle.{bundleSize, bundleOf, headerOfDay}
+use Rattle.protocol.specs.Update.{signersOf, announcedBy}
+use Rattle.record.specs.Record.{encoding, wellFormed}
+use Rattle.calls.specs.Records.{ownSlot, recordAt, stored, wrongSize}
 use Rattle.calls.specs.declared.Announcement.{Announcement}
 use Rattle.calls.specs.declared.Announcement.the-variants.{Announced, Refused}
 
 -- "The search looks at one record and hands the rest of the sixteen to itself.": from number `seq` on, `left` records are left. An empty record
--- is all zero; 21 is for an unsound one before the first that is, and 25 for none.
-unfoldable pub search : Config → List ℕ → ℕ → ℕ → Outcome ℕ
-search w records seq zero = refused 25
-search w records seq (suc left) =
-    cond (blank (recordAt w (w .own) seq records)) (done seq)
-    (cond (wellFormed w (w .own) (recordAt w (w .own) seq records)) (search w records (suc seq) left) (refused 21))
+-- is all zero; 21 is for a malformed one before the first that is, and 25 for none.
+unfoldable pub search : Config → (records : List ℕ) (seq left : ℕ) → Outcome ℕ
+search config records seq zero = refused 25
+search config records seq (suc left) =
+    cond (blank (recordAt config (ownSlot config seq) records)) (done seq)
+    (cond (wellFormed config (config .own) (recordAt config (ownSlot config seq) records)) (search config records (suc seq) left) (refused 21))
 
--- the signers of an announcement, and its bundle's header
-abbrev pub announcedHeader : Config → ℕ → Header
-announcedHeader w seq = record { sender = w .own; seq = seq; signers = insert 0 (w .own) }
+-- the header of an announcement's bundle: our bit alone
+abbrev pub announcedHeader : Config → (seq : ℕ) → Header
+announcedHeader config seq = headerOfDay config (config .own) seq (insert 0 (config .own))
 
-module _ (w : Config) (payload records out : List ℕ) where
+module _ (config : Config) (payload records out : List ℕ) where
   -- "announcing 1, 9, 10, 20, 21, 25"
   unfoldable pub broadcastReasons : List Reason
   broadcastReasons =
-      (1 if not (good w))
+      (1 if not (good config))
       ∷ (9 if not (eqb (length payload) payloadSize))
-      ∷ (10 if not (eqb (length out) size))
-      ∷ (20 if wrongSize w records)
+      ∷ (10 if not (eqb (length out) bundleSize))
+      ∷ (20 if wrongSize config records)
       ∷ []
 
   -- it gives the number
   unfoldable pub broadcast : Outcome ℕ
-  broadcast = checked broadcastReasons and-then (λ _. search w records 0 slots)
+  broadcast = checked broadcastReasons and-then (λ _. search config records 0 slots)
 
   unfoldable pub broadcastRecords : List ℕ
-  broadcastRecords = after broadcast (λ seq. stored w (w .own) seq (image (announcedBy (w .own) payload)) records) records
+  broadcastRecords = after broadcast (λ seq. stored config (ownSlot config seq) (encoding (announcedBy (config .own) payload)) records) records
 
   unfoldable pub broadcastOut : List ℕ
-  broadcastOut = after broadcast (λ seq. bundleOf (w .day) (announcedHeader w seq) payload) out
+  broadcastOut = after broadcast (λ seq. bundleOf (announcedHeader config seq) payload) out
 
 -- the paper's number and values for each case
 abbrev pub announcementOf : Announcement → Outcome ℕ

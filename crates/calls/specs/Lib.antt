@@ -3,8 +3,8 @@ pub mod Records
 pub mod Open
 pub mod Broadcast
 pub mod Receive
-pub mod Delivered
-pub mod Settled
+pub mod Showing
+pub mod Inner
 pub mod Locality
 pub mod Algorithm
-pub mod Kept
+pub mod Preserved

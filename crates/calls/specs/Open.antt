@@ -9,10 +9,10 @@ use Rattle.config.specs.declared.Config.{Config}
 use Rattle.config.specs.Config.{good}
 use Rattle.calls.specs.Records.{wrongSize}
 
-module _ (w : Config) (records : List ℕ) where
+module _ (config : Config) (records : List ℕ) where
   -- "Opening uses 1, 20"
   unfoldable pub openReasons : List Reason
-  openReasons = (1 if not (good w)) ∷ (20 if wrongSize w records) ∷ []
+  openReasons = (1 if not (good config)) ∷ (20 if wrongSize config records) ∷ []
 
   -- it gives the records afterwards
   unfoldable pub opened : Outcome (List ℕ)

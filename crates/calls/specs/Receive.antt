@@ -1,4 +1,4 @@
--- Document 01, "Calls", taking a bundle. What it does to the slot's record is the step of protocol's specs/Slot.antt; here are the refusals
+-- Document 01, "Calls", taking a bundle. What it does to the slot's record is the update of protocol's specs/Update.antt; here are the refusals
 -- before it, and what becomes of the two buffers.
 -- Assumes nothing.
 use mathlib.Core.Bool.{not, cond}
@@ -10,44 +10,45 @@ use Rattle.signers.specs.Signers as signers
 use Rattle.refusal.specs.Refusal.{numberOf}
 use Rattle.refusal.specs.Outcome.{Outcome, refused, done, Reason, _if_, after, checked, _and-then_}
 use Rattle.config.specs.declared.Config.{Config}
+use Rattle.config.specs.declared.Slot.{Slot}
 use Rattle.config.specs.Config.{quorum}
 use Rattle.bundle.specs.declared.Header.{Header}
-use Rattle.bundle.specs.Bundle.{size, bundleOf, headerOf, read, payload}
-use Rattle.protocol.specs.Slot.{Record, signersOf, payloadOf, Answer, kept, signed, delivered, sends, Turn, update}
-use Rattle.record.specs.Record.{image, recordIn, wellFormed}
+use Rattle.bundle.specs.Bundle.{bundleSize, bundleOf, read, payloadPart, slotOf, headerOf, slotIn}
+use Rattle.protocol.specs.Update.{Record, signersOf, payloadOf, Answer, kept, signed, delivered, sends, Update, update}
+use Rattle.record.specs.Record.{encoding, decoded, wellFormed}
 use Rattle.calls.specs.Records.{recordAt, stored, wrongSize}
 use Rattle.calls.specs.declared.Receipt.{Receipt}
 use Rattle.calls.specs.declared.Receipt.the-variants.{Kept, Signed, Delivered, Refused}
 
--- the record's bundle, in the slot of the header
-unfoldable pub recordBundle : Config → Header → Record → List ℕ
-recordBundle w h r = bundleOf (w .day) (record { sender = h .sender; seq = h .seq; signers = signersOf r }) (payloadOf r)
+-- the bundle of a slot's record
+unfoldable pub recordBundle : Slot → Record → List ℕ
+recordBundle slot r = bundleOf (headerOf slot (signersOf r)) (payloadOf r)
 
-module _ (w : Config) (bundle records out : List ℕ) where
-  -- "taking 1-8, 10, 20-24": 1-8 are reading's, and 22-24 those of the step
+module _ (config : Config) (bundle records out : List ℕ) where
+  -- "taking 1-8, 10, 20-24": 1-8 are reading's, and 22-24 those of the update
   unfoldable pub receiveReasons : Header → List Reason
   receiveReasons h =
-      (10 if not (eqb (length out) size))
-      ∷ (20 if wrongSize w records)
-      ∷ (21 if not (wellFormed w (h .sender) (recordAt w (h .sender) (h .seq) records)))
+      (10 if not (eqb (length out) bundleSize))
+      ∷ (20 if wrongSize config records)
+      ∷ (21 if not (wellFormed config (h .sender) (recordAt config (slotOf h) records)))
       ∷ []
 
-  unfoldable pub receive : Outcome Turn
+  unfoldable pub receive : Outcome Update
   receive =
-      read w bundle and-then λ h.
+      read config bundle and-then λ h.
       checked (receiveReasons h) and-then λ _.
-      update (w .own) (quorum w) (h .signers) (payload w bundle) (recordIn (recordAt w (h .sender) (h .seq) records))
+      update (config .own) (quorum config) (h .signers) (payloadPart config bundle) (decoded (recordAt config (slotOf h) records))
 
   unfoldable pub receiveRecords : List ℕ
-  receiveRecords = after receive (λ turn. stored w (headerOf bundle .sender) (headerOf bundle .seq) (image (turn .after)) records) records
+  receiveRecords = after receive (λ result. stored config (slotIn bundle) (encoding (result .newRecord)) records) records
 
   -- 5. "The outgoing bytes receive the record's bundle if the answer is signed or delivered; at kept they stay."
   unfoldable pub receiveOut : List ℕ
-  receiveOut = after receive (λ turn. cond (sends (turn .answer)) (recordBundle w (headerOf bundle) (turn .after)) out) out
+  receiveOut = after receive (λ result. cond (sends (result .answer)) (recordBundle (slotIn bundle) (result .newRecord)) out) out
 
 -- "The answer also has the number of signers in the record afterwards."
-unfoldable pub reported : Turn → Answer × ℕ
-reported turn = (turn .answer, signers.size (signersOf (turn .after)))
+unfoldable pub reported : Update → Answer × ℕ
+reported result = (result .answer, signers.size (signersOf (result .newRecord)))
 
 -- the paper's answer and count for each case, or the number of the refusal
 abbrev pub receiptOf : Receipt → Outcome (Answer × ℕ)

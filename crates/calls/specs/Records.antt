@@ -7,20 +7,25 @@ use lib.Dec.{eqb}
 use lib.ListN.{length, take, drop}
 use Rattle.octets.specs.Octets.{part}
 use Rattle.config.specs.declared.Config.{Config}
-use Rattle.config.specs.Config.{place, recordSize, recordsSize}
+use Rattle.config.specs.declared.Slot.{Slot}
+use Rattle.config.specs.Config.{slotOfDay, place, recordSize, recordsSize}
+
+-- a slot of our own
+abbrev pub ownSlot : Config → (seq : ℕ) → Slot
+ownSlot config seq = slotOfDay config (config .own) seq
 
 -- the bytes of a slot's record
-unfoldable pub recordAt : Config → ℕ → ℕ → List ℕ → List ℕ
-recordAt w sender seq records = part (place w sender seq) recordSize records
+unfoldable pub recordAt : Config → Slot → (records : List ℕ) → List ℕ
+recordAt config slot records = part (place config slot) recordSize records
 
 -- a buffer with another record's bytes at a place, and all else as it was
-unfoldable pub replaced : ℕ → List ℕ → List ℕ → List ℕ
+unfoldable pub replaced : (start : ℕ) (bytes records : List ℕ) → List ℕ
 replaced start bytes records = take start records ++ (bytes ++ drop (start + recordSize) records)
 
 -- with them in a slot's place
-unfoldable pub stored : Config → ℕ → ℕ → List ℕ → List ℕ → List ℕ
-stored w sender seq bytes records = replaced (place w sender seq) bytes records
+unfoldable pub stored : Config → Slot → (bytes records : List ℕ) → List ℕ
+stored config slot bytes records = replaced (place config slot) bytes records
 
 -- "20 record buffer not 512 × n bytes"
 abbrev pub wrongSize : Config → List ℕ → Bool
-wrongSize w records = not (eqb (length records) (recordsSize w))
+wrongSize config records = not (eqb (length records) (recordsSize config))

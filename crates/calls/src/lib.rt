@@ -1,29 +1,29 @@
 // The calls of a node: opening a day, broadcasting, receiving, and showing what was delivered.
 //
-// Each is defined for all bytes, lengths and numbers over the buffers that it is lent. It refuses by the
+// Each is defined for all bytes, lengths and numbers over the buffers that it is given. It refuses by the
 // first reason of document 01 that applies, and then leaves every byte as it is.
 use bundle::Header;
 use bundle::Reading;
 use config::Config;
+use record::Received;
 use record::Record;
-use record::Step;
 use refusal::Refusal;
 use refusal::Verdict;
 ghost use mathlib.Core.Path.{_≡_};
 ghost use Prim.Native.Nat.{_+_, _*_, _%_, _≤_};
 ghost use lib.ListN.{length};
-ghost use Rattle.octets.specs.Octets.{part, further};
+ghost use Rattle.octets.specs.Octets.{part, advance};
 ghost use Rattle.refusal.specs.Refusal.{verdictOf, numberOf};
 ghost use Rattle.refusal.specs.Outcome.{plain, _and-then_, done};
-ghost use Rattle.config.specs.Config.{slots, recordSize};
-ghost use Rattle.bundle.specs.Bundle.{readingOf, size};
-ghost use Rattle.record.specs.Record.{bytes, stepOf};
+ghost use Rattle.config.specs.Config.{slots, recordSize, slotOfDay};
+ghost use Rattle.bundle.specs.Bundle.{readingOf, slotOf, bundleSize};
+ghost use Rattle.record.specs.Record.{bytes, receivedOf};
 ghost use Rattle.calls.specs.Records.{replaced};
 ghost use Rattle.calls.specs.Open.{opened, openRecords};
 ghost use Rattle.calls.specs.Broadcast.{broadcast as broadcastOf, broadcastRecords, broadcastOut, announcementOf, announcementCount};
 ghost use Rattle.calls.specs.Receive.{receive as receiveOf, receiveRecords, receiveOut, reported, receiptOf, receiptCount};
-ghost use Rattle.calls.specs.Delivered.{delivered as deliveredOf, deliveredPart, deliveredPlace};
-ghost use Rattle.calls.specs.Settled.{Found, settledReceipt, settledRecords, settledOut, numberIn, sent};
+ghost use Rattle.calls.specs.Showing.{delivered as deliveredOf, deliveredPart, deliveredPlace};
+ghost use Rattle.calls.specs.Inner.{Found, settledReceipt, settledRecords, settledOut, numberIn, sent};
 
 // The answer of broadcasting: the sequence number used.
 pub enum Announcement {
@@ -90,7 +90,7 @@ pub fn broadcast(config: Config, payload: &[u8], records: &mut [u8], out: &mut [
     if !config.good() {
         return Announcement::Refused(Refusal::BadConfig);
     }
-    if payload.len() != bundle::PAYLOAD_SIZE {
+    if payload.len() != payload::SIZE {
         return Announcement::Refused(Refusal::PayloadLength);
     }
     if out.len() != bundle::SIZE {
@@ -100,7 +100,7 @@ pub fn broadcast(config: Config, payload: &[u8], records: &mut [u8], out: &mut [
         return Announcement::Refused(Refusal::RecordsLength);
     }
     let ours = signers::insert(0, config.own);
-    let first = config::offset(config.own, 0);
+    let first = config.slot_of_day(config.own, 0).place();
     let seq = search(
         signers::below(config.n),
         config.quorum(),
@@ -113,21 +113,23 @@ pub fn broadcast(config: Config, payload: &[u8], records: &mut [u8], out: &mut [
     if NONE_FREE < seq {
         return Announcement::Refused(Refusal::MalformedRecord);
     }
-    let record = Record {
-        head: record::HELD,
+    let record = Record::held(ours, payload::load(payload));
+    let start = first + config::RECORD_SIZE * (seq as usize);
+    put(start, record, records);
+    let header = Header {
+        day: config.day,
+        sender: config.own,
+        seq,
         signers: ours,
-        high: octets::word(&payload[0..8]),
-        low: octets::word(&payload[8..16]),
     };
-    put(config::offset(config.own, seq), record, records);
-    send(config, config.own, seq, record, out);
+    send(header, record, out);
     Announcement::Announced(seq)
 }
 
 // Receives a bundle that came in. What is answered signed or delivered is to be sent: `out` then has the
 // bundle of the record.
 pub fn receive(config: Config, bundle: &[u8], records: &mut [u8], out: &mut [u8]) -> Receipt
-    ensures { λ r. ⌜ receiptOf r ≡ (receiveOf config (now (bundle .entry)) (now (records .entry)) (now (out .entry)) and-then λ turn. done (reported turn)) ⌝ }
+    ensures { λ r. ⌜ receiptOf r ≡ (receiveOf config (now (bundle .entry)) (now (records .entry)) (now (out .entry)) and-then λ result. done (reported result)) ⌝ }
     ensures { λ _. ⌜ now (records .exit) ≡ receiveRecords config (now (bundle .entry)) (now (records .entry)) (now (out .entry)) ⌝ }
     ensures { λ _. ⌜ now (out .exit) ≡ receiveOut config (now (bundle .entry)) (now (records .entry)) (now (out .entry)) ⌝ }
 {
@@ -141,17 +143,17 @@ pub fn receive(config: Config, bundle: &[u8], records: &mut [u8], out: &mut [u8]
     if records.len() != config.records_size() {
         return Receipt::Refused(Refusal::RecordsLength);
     }
-    let start = config::offset(header.sender, header.seq);
+    let slot = config.slot_of_day(header.sender, header.seq);
+    let start = slot.place();
     let record = get(start, records);
-    let high = octets::word(&bundle[16..24]);
-    let low = octets::word(&bundle[24..32]);
-    let step = record.receive(config, header.sender, header.signers, high, low);
-    settle(config, header, start, step, records, out)
+    let payload = bundle::load_payload(bundle);
+    let received = record.receive(config, header.sender, header.signers, payload);
+    settle(header, start, received, records, out)
 }
 
 // Whether the slot is delivered, or why it cannot be shown.
 pub fn check_delivered(config: Config, sender: u8, seq: u8, records: &[u8]) -> Verdict
-    ensures { λ r. ⌜ verdictOf r ≡ plain (deliveredOf config sender seq (now (records .entry))) ⌝ }
+    ensures { λ r. ⌜ verdictOf r ≡ plain (deliveredOf config (slotOfDay config sender seq) (now (records .entry))) ⌝ }
 {
     if !config.good() {
         return Verdict::Refused(Refusal::BadConfig);
@@ -165,7 +167,7 @@ pub fn check_delivered(config: Config, sender: u8, seq: u8, records: &[u8]) -> V
     if records.len() != config.records_size() {
         return Verdict::Refused(Refusal::RecordsLength);
     }
-    let record = get(config::offset(sender, seq), records);
+    let record = get(config.slot_of_day(sender, seq).place(), records);
     if !record.well_formed(config, sender) {
         return Verdict::Refused(Refusal::MalformedRecord);
     }
@@ -175,30 +177,30 @@ pub fn check_delivered(config: Config, sender: u8, seq: u8, records: &[u8]) -> V
     Verdict::Done
 }
 
-// The delivered payload as a part of the lent records; the empty part at their start where
+// The delivered payload as a part of the records that the caller gave; the empty part at their start where
 // `check_delivered` refuses.
 pub fn delivered(config: Config, sender: u8, seq: u8, records: &[u8]) -> &[u8]
-    ensures { λ r. ⌜ now r ≡ deliveredPart config sender seq (now (records .entry)) ⌝ }
-    ensures { λ r. ⌜ r .ptr ≡ further (deliveredPlace config sender seq (now (records .entry))) (records .entry .ptr) ⌝ }
+    ensures { λ r. ⌜ now r ≡ deliveredPart config (slotOfDay config sender seq) (now (records .entry)) ⌝ }
+    ensures { λ r. ⌜ r .ptr ≡ advance (deliveredPlace config (slotOfDay config sender seq) (now (records .entry))) (records .entry .ptr) ⌝ }
 {
     match check_delivered(config, sender, seq, records) {
         Verdict::Done => {
-            let start = config.place(sender, seq) + record::PAYLOAD_AT;
-            &records[start..start + bundle::PAYLOAD_SIZE]
+            let start = config.slot_of_day(sender, seq).place() + record::PAYLOAD_AT;
+            &records[start..start + payload::SIZE]
         }
         Verdict::Refused(_) => &records[0..0],
     }
 }
 
-// What `search` answers beside a number: all our records are sound and none is empty, or an unsound one
-// comes before any that is empty.
+// What `search` answers beside a number: all our records are well-formed and none is empty, or a malformed
+// one comes before any that is empty.
 const NONE_FREE: u8 = config::SLOTS;
 
 const MALFORMED: u8 = config::SLOTS + 1;
 
 // The number of the first record that is empty in `rest`, the last of our sixteen, if all before it are
-// sound. It looks at one and hands the rest to itself. The answer is a number, and the rest a part of its
-// own: an enum, or the slice as it came, would be copied in memory at each of the sixteen.
+// well-formed. It looks at one and calls itself for the rest. The answer is a number, and the rest a part of
+// its own: an enum, or the slice as it came, would be copied in memory at each of the sixteen.
 fn search(all: u64, quorum: u32, ours: u64, rest: &[u8]) -> u8
     requires { ⌜ length (now rest) % recordSize ≡ 0 ⌝ }
     requires { ⌜ length (now rest) ≤ recordSize * slots ⌝ }
@@ -227,37 +229,36 @@ fn reason(reading: Reading) -> Refusal
     }
 }
 
-// Does what a step asks for: keeps the record, writes its bundle, or neither.
+// Does what receiving gave: stores the record, writes its bundle, or neither.
 fn settle(
-    config: Config,
     header: Header,
     start: usize,
-    step: Step,
+    received: Received,
     records: &mut [u8],
     out: &mut [u8],
 ) -> Receipt
     requires { ⌜ start + recordSize ≤ length (now records) ⌝ }
-    requires { ⌜ length (now out) ≡ size ⌝ }
-    ensures { λ r. ⌜ receiptOf r ≡ settledReceipt (stepOf step) ⌝ }
-    ensures { λ _. ⌜ now (records .exit) ≡ settledRecords start (stepOf step) (now (records .entry)) ⌝ }
-    ensures { λ _. ⌜ now (out .exit) ≡ settledOut config header (stepOf step) (now (out .entry)) ⌝ }
+    requires { ⌜ length (now out) ≡ bundleSize ⌝ }
+    ensures { λ r. ⌜ receiptOf r ≡ settledReceipt (receivedOf received) ⌝ }
+    ensures { λ _. ⌜ now (records .exit) ≡ settledRecords start (receivedOf received) (now (records .entry)) ⌝ }
+    ensures { λ _. ⌜ now (out .exit) ≡ settledOut (slotOf header) (receivedOf received) (now (out .entry)) ⌝ }
 {
-    match step {
-        Step::Kept(record) => {
+    match received {
+        Received::Kept(record) => {
             put(start, record, records);
             Receipt::Kept(signers::size(record.signers))
         }
-        Step::Signed(record) => {
+        Received::Signed(record) => {
             put(start, record, records);
-            send(config, header.sender, header.seq, record, out);
+            send(header, record, out);
             Receipt::Signed(signers::size(record.signers))
         }
-        Step::Delivered(record) => {
+        Received::Delivered(record) => {
             put(start, record, records);
-            send(config, header.sender, header.seq, record, out);
+            send(header, record, out);
             Receipt::Delivered(signers::size(record.signers))
         }
-        Step::Refused(reason) => Receipt::Refused(reason),
+        Received::Refused(reason) => Receipt::Refused(reason),
     }
 }
 
@@ -277,15 +278,17 @@ fn put(start: usize, record: Record, records: &mut [u8])
     record.store(&mut records[start..start + config::RECORD_SIZE]);
 }
 
-// Writes the record's bundle.
-fn send(config: Config, sender: u8, seq: u8, record: Record, out: &mut [u8])
-    requires { ⌜ length (now out) ≡ size ⌝ }
-    ensures { λ _. ⌜ now (out .exit) ≡ sent config sender seq (bytes «record») ⌝ }
+// Writes the record's bundle, in the header's slot.
+fn send(header: Header, record: Record, out: &mut [u8])
+    requires { ⌜ length (now out) ≡ bundleSize ⌝ }
+    ensures { λ _. ⌜ now (out .exit) ≡ sent (slotOf header) (bytes «record») ⌝ }
 {
     let header = Header {
-        sender,
-        seq,
+        day: header.day,
+        sender: header.sender,
+        seq: header.seq,
         signers: record.signers,
     };
-    bundle::encode(config.day, header, record.high, record.low, out);
+    let payload = record.payload;
+    bundle::encode(header, payload, out);
 }

@@ -2,103 +2,142 @@
 -- The protocol's argument rests on `quorum-intersects` and `quorum-reachable` alone, which another quorum within the same bounds would meet;
 -- `quorum-strict` is about the source's own quorum.
 -- Assumes nothing.
-use mathlib.Core.Path.{_≡_, refl}
+use mathlib.Core.Path.{_≡_, refl, ap, ap₂, _∙_}
 use mathlib.Core.Bool.{Bool, true, false, and-eq-true-iff}
 use Prim.Native.Nat.{ℕ, _+_, _-_, _*_, _/_, _≤_, _<_}
 use native.Mathlib.Nat.{not-le-of-lt}
 use native.Mathlib.Omega.{arith}
-use lib.Dec.{leb, ltb}
+use lib.Dec.{leb, ltb, eqb}
 use lib.Pow.{le-ones, lt-of-le-ones}
-use borrow.Author.Tests.{lt-ltb, le-leb, lt-leb, leb-true, ltb-true, ltb-false}
+use borrow.Author.Tests.{lt-ltb, le-leb, lt-leb, leb-true, ltb-true, ltb-false, eqb-true, eq-eqb}
 use Rattle.config.specs.declared.Config.{Config}
+use Rattle.config.specs.declared.Slot.{Slot}
 use Rattle.signers.specs.Sets.{NodeSet, count}
 use Rattle.signers.specs.Signers.{member, below, within, size}
+use Rattle.signers.proofs.Counting.{more-than-half}
 use Rattle.signers.proofs.Members.{lt-within, within-lt, below-ones, member-ones, words-share-correct}
-use Rattle.config.specs.Config.{good, quorum, mask, inRange, offset, place}
+use Rattle.config.specs.Config.{good, quorum, mask, slots, inRange, sameSlot, recordSize, slotPlace, place, recordsSize}
 
 -- The four bounds of a good configuration.
-pub record Good (w : Config) : Type 0 where
-  pub some : 1 ≤ w .n
-  pub most : w .n ≤ 64
-  pub resilient : 3 * w .t + 2 * w .d < w .n
-  pub known : w .own < w .n
+pub record Good (config : Config) : Type 0 where
+  pub some : 1 ≤ config .n
+  pub most : config .n ≤ 64
+  pub resilient : 3 * config .t + 2 * config .d < config .n
+  pub known : config .own < config .n
 
 -- what `good` tests, as bounds, and back
-pub good-says : (w : Config) → good w ≡ true → Good w
+pub good-says : (config : Config) → good config ≡ true → Good config
 unfolding good
-good-says w e =
+good-says config e =
     let (first, known) = and-eq-true-iff _ _ .0 e in
     let (range, resilient) = and-eq-true-iff _ _ .0 first in
     let (some, most) = and-eq-true-iff _ _ .0 range in
     record { some = leb-true _ _ some; most = leb-true _ _ most; resilient = ltb-true _ _ resilient; known = ltb-true _ _ known }
 
-pub says-good : (w : Config) → Good w → good w ≡ true
+pub says-good : (config : Config) → Good config → good config ≡ true
 unfolding good
-says-good w g = simp (le-leb _ _ (g .some), le-leb _ _ (g .most), lt-ltb _ _ (g .resilient), lt-ltb _ _ (g .known))
+says-good config g = simp (le-leb _ _ (g .some), le-leb _ _ (g .most), lt-ltb _ _ (g .resilient), lt-ltb _ _ (g .known))
 
 -- a configuration that breaks a bound is not good
-pub not-good : (w : Config) → (Good w → ⊥) → good w ≡ false
-not-good w h = go (good w) refl
+pub not-good : (config : Config) → (Good config → ⊥) → good config ≡ false
+not-good config h = go (good config) refl
   where
-    go : (b : Bool) → good w ≡ b → good w ≡ false
-    go true e = absurd (h (good-says w e))
+    go : (b : Bool) → good config ≡ b → good config ≡ false
+    go true e = absurd (h (good-says config e))
     go false e = e
 
 -- the mask is the nodes below n
-pub mask-below : (w : Config) → good w ≡ true → below (w .n) ≡ mask w
+pub mask-below : (config : Config) → good config ≡ true → below (config .n) ≡ mask config
 unfolding mask
-mask-below w e = rw e (below-ones (w .n) (good-says w e .most))
+mask-below config e = rw e (below-ones (config .n) (good-says config e .most))
 
--- the place of a slot is its offset
-pub place-offset : (w : Config) (sender seq : ℕ) → good w ≡ true → inRange w sender seq ≡ true → place w sender seq ≡ offset sender seq
+-- ---- slots
+
+-- a slot is in range where its sender and its number are below their bounds
+pub range-says : (config : Config) (slot : Slot) → inRange config slot ≡ true → (slot .sender < config .n) × (slot .seq < slots)
+unfolding inRange
+range-says config slot r = let (s, k) = and-eq-true-iff _ _ .0 r in (ltb-true (slot .sender) (config .n) s, ltb-true (slot .seq) slots k)
+
+pub in-range : (config : Config) (slot : Slot) → slot .sender < config .n → slot .seq < slots → inRange config slot ≡ true
+unfolding inRange
+in-range config slot s k = rw (lt-ltb (slot .sender) (config .n) s, lt-ltb (slot .seq) slots k)
+
+-- where its record starts, and that the record lies within the records of the day
+pub place-slot : (config : Config) (slot : Slot) → good config ≡ true → inRange config slot ≡ true → place config slot ≡ slotPlace slot
 unfolding place
-place-offset w sender seq e range = rw (e, range)
+place-slot config slot g r = rw (g, r)
+
+pub place-is : (config : Config) (slot : Slot) → good config ≡ true → inRange config slot ≡ true → place config slot ≡ recordSize * (slots * slot .sender + slot .seq)
+unfolding slotPlace
+place-is config slot g r = place-slot config slot g r
+
+pub place-room : (config : Config) (slot : Slot) → good config ≡ true → inRange config slot ≡ true → place config slot + recordSize ≤ recordsSize config
+unfolding recordsSize
+place-room config slot g r =
+    let (known, below) = range-says config slot r in
+    rw (place-is config slot g r) (omega arith)
+
+-- the records of a day are few enough that no sum of places wraps
+pub records-fit : (config : Config) → good config ≡ true → recordsSize config ≤ recordSize * slots * 64
+unfolding recordsSize
+records-fit config g = let most = good-says config g .most in omega arith
+
+-- slots that pass the test are one slot, and a slot passes it with itself
+pub same-slot-says : (first second : Slot) → sameSlot first second ≡ true → first ≡ second
+unfolding sameSlot
+same-slot-says first second e =
+    let (days, others) = and-eq-true-iff (eqb (first .day) (second .day)) _ .0 e in
+    let (senders, seqs) = and-eq-true-iff (eqb (first .sender) (second .sender)) _ .0 others in
+    ap₂ {C = Slot} (λ (d s : ℕ). record { day = d; sender = s; seq = first .seq }) (eqb-true _ _ days) (eqb-true _ _ senders)
+    ∙ ap {B = Slot} (λ (k : ℕ). record { day = second .day; sender = second .sender; seq = k }) (eqb-true _ _ seqs)
+
+pub same-slot-self : (slot : Slot) → sameSlot slot slot ≡ true
+unfolding sameSlot
+same-slot-self slot = rw (eq-eqb (slot .day) (slot .day) refl, eq-eqb (slot .sender) (slot .sender) refl, eq-eqb (slot .seq) (slot .seq) refl)
+
+-- ---- signer sets
 
 -- a set is within the nodes where it is at most the mask, and only there
-pub within-mask : (w : Config) (set : ℕ) → good w ≡ true → set ≤ mask w → within set (w .n) ≡ true
+pub within-mask : (config : Config) (set : ℕ) → good config ≡ true → set ≤ mask config → within set (config .n) ≡ true
 unfolding mask
-within-mask w set e h = lt-within set (w .n) (lt-of-le-ones (w .n) (rw e at h))
+within-mask config set e h = lt-within set (config .n) (lt-of-le-ones (config .n) (rw e at h))
 
-pub past-mask : (w : Config) (set : ℕ) → good w ≡ true → mask w < set → within set (w .n) ≡ false
+pub past-mask : (config : Config) (set : ℕ) → good config ≡ true → mask config < set → within set (config .n) ≡ false
 unfolding mask
-past-mask w set e h = go (within set (w .n)) refl
+past-mask config set e h = go (within set (config .n)) refl
   where
-    go : (b : Bool) → within set (w .n) ≡ b → within set (w .n) ≡ false
-    go true q = absurd (not-le-of-lt (rw e at h) (le-ones (w .n) (within-lt set (w .n) q)))
+    go : (b : Bool) → within set (config .n) ≡ b → within set (config .n) ≡ false
+    go true q = absurd (not-le-of-lt (rw e at h) (le-ones (config .n) (within-lt set (config .n) q)))
     go false q = q
 
 -- the members of the mask are the nodes 0 to n - 1
-pub mask-members : (w : Config) (node : ℕ) → good w ≡ true → member (mask w) node ≡ ltb node (w .n)
+pub mask-members : (config : Config) (node : ℕ) → good config ≡ true → member (mask config) node ≡ ltb node (config .n)
 unfolding mask
-mask-members w node e = rw e (member-ones (w .n) node)
+mask-members config node e = rw e (member-ones (config .n) node)
 
 -- twice a quorum is more than n + t, so that two quorums share more than t nodes
-pub quorum-intersects : (w : Config) → good w ≡ true → w .n + w .t < quorum w + quorum w
+pub quorum-intersects : (config : Config) → good config ≡ true → config .n + config .t < quorum config + quorum config
 unfolding quorum
-quorum-intersects w e = rw e (omega arith)
+quorum-intersects config e = rw e (omega arith)
 
 -- so two signer sets of a quorum each share a correct node
-pub quorums-share-correct : (w : Config) (a b : ℕ) (faulty : NodeSet) → good w ≡ true → within a (w .n) ≡ true → within b (w .n) ≡ true
-    → count faulty (w .n) ≤ w .t → quorum w ≤ size a → quorum w ≤ size b
-    → (u : ℕ) × (u < w .n) × (member a u ≡ true) × (member b u ≡ true) × (faulty u ≡ false)
-quorums-share-correct w a b faulty g ha hb few qa qb =
-    words-share-correct a b (w .n) (w .t) (quorum w) faulty ha hb (quorum-intersects w g) few qa qb
+pub signers-share-correct : (config : Config) (a b : ℕ) (faulty : NodeSet) → good config ≡ true → within a (config .n) ≡ true → within b (config .n) ≡ true
+    → count faulty (config .n) ≤ config .t → quorum config ≤ size a → quorum config ≤ size b
+    → (u : ℕ) × (u < config .n) × (member a u ≡ true) × (member b u ≡ true) × (faulty u ≡ false)
+signers-share-correct config a b faulty g ha hb few qa qb =
+    words-share-correct a b (config .n) (config .t) (quorum config) faulty ha hb (quorum-intersects config g) few qa qb
 
 -- the correct nodes that every sending reaches are a quorum by themselves: q is at most n - t - d
-pub quorum-reachable : (w : Config) → good w ≡ true → quorum w + w .t + w .d ≤ w .n
+pub quorum-reachable : (config : Config) → good config ≡ true → quorum config + config .t + config .d ≤ config .n
 unfolding quorum
-quorum-reachable w e = let g = good-says w e in rw e (omega arith)
+quorum-reachable config e = let g = good-says config e in rw e (omega arith)
 
 -- a quorum is what the source calls strictly more than (n + t)/2
-pub quorum-strict : (w : Config) (k : ℕ) → good w ≡ true → leb (quorum w) k ≡ ltb (w .n + w .t) (k + k)
+pub quorum-strict : (config : Config) (k : ℕ) → good config ≡ true → leb (quorum config) k ≡ ltb (config .n + config .t) (k + k)
 unfolding quorum
-quorum-strict w k e = rw e (go (ltb (w .n + w .t) (k + k)) refl)
-  where
-    go : (b : Bool) → ltb (w .n + w .t) (k + k) ≡ b → leb ((w .n + w .t) / 2 + 1) k ≡ b
-    go true h = le-leb ((w .n + w .t) / 2 + 1) k (omega (arith, ltb-true (w .n + w .t) (k + k) h))
-    go false h = lt-leb ((w .n + w .t) / 2 + 1) k (omega (arith, ltb-false (w .n + w .t) (k + k) h))
+quorum-strict config k e = rw e (more-than-half (config .n + config .t) k)
 
--- tables that differ in own number and day alone have one quorum
-pub quorum-shared : (w v : Config) → w .n ≡ v .n → w .t ≡ v .t → good w ≡ true → good v ≡ true → quorum w ≡ quorum v
+-- configurations that differ in own number and day alone have one quorum
+pub quorum-shared : (config other : Config) → config .n ≡ other .n → config .t ≡ other .t → good config ≡ true → good other ≡ true → quorum config ≡ quorum other
 unfolding quorum
-quorum-shared w v n t g h = rw (g, h, n, t)
+quorum-shared config other n t g h = rw (g, h, n, t)

@@ -6,7 +6,7 @@ use mathlib.Core.Bool.{Bool, true, false}
 use mathlib.Core.List.{List, [], _∷_, List·Memᴰ}
 use Prim.Native.Nat.{ℕ}
 use Rattle.config.specs.declared.Config.{Config}
-use Rattle.config.specs.Config.{good, quorum}
+use Rattle.config.specs.Config.{configFor, good, quorum}
 
 -- a row of the list: n, t and d, whether the table is good, and its quorum, 0 where it is bad
 pub record Row : Type 0 where
@@ -33,9 +33,9 @@ tables =
     ∷ row 65 0 0 false 0
     ∷ []
 
--- a row as a table, on any day
-abbrev pub configOf : Row → ℕ → Config
-configOf r day = record { n = r .n; t = r .t; d = r .d; own = 0; day = day }
+-- the configuration of a row, on any day
+abbrev pub rowConfig : (row : Row) (day : ℕ) → Config
+rowConfig row day = configFor (row .n) (row .t) (row .d) day
 
 abbrev pub TablesHold : Type 0
-TablesHold = (r : Row) (day : ℕ) → List·Memᴰ r tables → (good (configOf r day) ≡ r .isGood) × (quorum (configOf r day) ≡ r .q)
+TablesHold = (row : Row) (day : ℕ) → List·Memᴰ row tables → (good (rowConfig row day) ≡ row .isGood) × (quorum (rowConfig row day) ≡ row .q)

@@ -1,10 +1,11 @@
-// The configuration that the nodes of a system share but for `own`: document 01's table.
+// The configuration that the nodes of a system share except for `own`: document 01's table. And the slots of a
+// day, with the place that each has in the day's records.
 //
-// Its methods take it by value and are defined for every value of every field. One that is not good
-// has quorum 0, mask 0 and place 0. A caller asks `good` first: every set meets a quorum of 0, and 0 is
-// the place of a slot, too.
+// The methods take the configuration by value and are defined for every value of every field. One that is
+// not good has quorum 0, mask 0 and place 0. A caller asks `good` first: every set has a quorum of 0, and 0
+// is the place of a slot, too.
 ghost use mathlib.Core.Path.{_≡_};
-ghost use Rattle.config.specs.Config.{good, quorum, mask, offset as offsetOf, place, recordsSize};
+ghost use Rattle.config.specs.Config.{good, quorum, mask, slotPlace, place, recordsSize, withOwn, slotOfDay};
 
 // Slots of one sender in a day.
 pub const SLOTS: u8 = 16;
@@ -12,11 +13,21 @@ pub const SLOTS: u8 = 16;
 // Bytes of one record, and so the distance from one slot's place to the next.
 pub const RECORD_SIZE: usize = 32;
 
-// Where the record of a slot starts in the day's buffer, for a caller that has made sure that the slot is one.
-pub fn offset(sender: u8, seq: u8) -> usize
-    ensures { λ r. ⌜ r ≡ offsetOf sender seq ⌝ }
-{
-    RECORD_SIZE * ((SLOTS as usize) * (sender as usize) + (seq as usize))
+// What a broadcast has to itself: the sender's `seq`-th broadcast of a day.
+pub struct Slot {
+    pub day: u32,
+    pub sender: u8,
+    // document 01's number
+    pub seq: u8,
+}
+
+impl Slot {
+    // Where the slot's record starts among the records of its day.
+    pub fn place(self) -> usize
+        ensures { λ r. ⌜ r ≡ slotPlace self ⌝ }
+    {
+        RECORD_SIZE * ((SLOTS as usize) * (self.sender as usize) + (self.seq as usize))
+    }
 }
 
 pub struct Config {
@@ -71,20 +82,45 @@ impl Config {
         signers::below(self.n)
     }
 
-    // Where the record of a slot starts in the day's buffer, or 0 where there is no such slot.
-    pub fn place(self, sender: u8, seq: u8) -> usize
-        ensures { λ r. ⌜ r ≡ place self sender seq ⌝ }
+    // The configuration of the same system at another node.
+    pub fn with_own(self, own: u8) -> Config
+        ensures { λ r. ⌜ r ≡ withOwn self own ⌝ }
+    {
+        Config {
+            n: self.n,
+            t: self.t,
+            d: self.d,
+            own,
+            day: self.day,
+        }
+    }
+
+    // A slot of the configuration's day.
+    pub fn slot_of_day(self, sender: u8, seq: u8) -> Slot
+        ensures { λ r. ⌜ r ≡ slotOfDay self sender seq ⌝ }
+    {
+        Slot {
+            day: self.day,
+            sender,
+            seq,
+        }
+    }
+
+    // The slot's place, or 0 for a sender or number out of range. The day is not looked at. A caller that has
+    // made sure of the slot asks the slot itself.
+    pub fn place(self, slot: Slot) -> usize
+        ensures { λ r. ⌜ r ≡ place self slot ⌝ }
     {
         if !self.good() {
             return 0;
         }
-        if self.n <= sender {
+        if self.n <= slot.sender {
             return 0;
         }
-        if SLOTS <= seq {
+        if SLOTS <= slot.seq {
             return 0;
         }
-        offset(sender, seq)
+        slot.place()
     }
 
     // How many bytes the records of a day take.

@@ -12,20 +12,20 @@ use Rattle.refusal.specs.Outcome.{Outcome, refused, done, checked, _and-then_}
 use Rattle.refusal.proofs.Reasons.{Comes, unless-comes, then-comes}
 use Rattle.config.specs.declared.Config.{Config}
 use Rattle.config.specs.Config.{quorum, slots}
-use Rattle.bundle.specs.Bundle.{headerOf, headerReasons, readReasons, read, payload}
-use Rattle.protocol.specs.Slot.{Record, Held, Delivered, isEmpty, kept, signed, delivered, Turn, updateReasons, gathered, updated, update}
-use Rattle.record.specs.Record.{recordIn, wellFormed}
-use Rattle.calls.specs.Records.{recordAt}
+use Rattle.bundle.specs.Bundle.{headerIn, headerReasons, readReasons, read, payloadPart, slotOf}
+use Rattle.protocol.specs.Update.{Record, Held, Delivered, isEmpty, kept, signed, delivered, Update, updateReasons, joinedSigners, updateResult, update}
+use Rattle.record.specs.Record.{decoded, wellFormed}
+use Rattle.calls.specs.Records.{recordAt, ownSlot}
 use Rattle.calls.specs.Broadcast.{search, broadcastReasons, broadcast}
 use Rattle.calls.specs.Receive.{receiveReasons, receive, reported}
 use Rattle.host.specs.Code.{announcedCode, answerCode, receivedCode, reportedCode, broadcastCodes, receiveCodes, listed, BroadcastListed, ReceiveListed}
 
-without-count : (outcome : Outcome Turn) → reportedCode (outcome and-then λ turn. done (reported turn)) ≡ receivedCode outcome
+without-count : (outcome : Outcome Update) → reportedCode (outcome and-then λ result. done (reported result)) ≡ receivedCode outcome
 unfolding reported
 without-count (refused number) = refl
-without-count (done turn) = refl
+without-count (done result) = refl
 
-pub reported-received : (w : Config) (bundle records out : List ℕ) → reportedCode (receive w bundle records out and-then λ turn. done (reported turn)) ≡ receivedCode (receive w bundle records out)
+pub reported-received : (w : Config) (bundle records out : List ℕ) → reportedCode (receive w bundle records out and-then λ result. done (reported result)) ≡ receivedCode (receive w bundle records out)
 reported-received w bundle records out = without-count (receive w bundle records out)
 
 -- ---- announcing
@@ -54,7 +54,7 @@ search-listed : (w : Config) (records : List ℕ) (seq left : ℕ) → seq + lef
 unfolding search listed broadcastCodes
 search-listed w records seq zero h = refl
 search-listed w records seq (suc left) h =
-    go (blank (recordAt w (w .own) seq records)) (wellFormed w (w .own) (recordAt w (w .own) seq records)) (search-listed w records (suc seq) left (omega arith))
+    go (blank (recordAt w (ownSlot w seq) records)) (wellFormed w (w .own) (recordAt w (ownSlot w seq) records)) (search-listed w records (suc seq) left (omega arith))
   where
     go : (b f : Bool) → Comes (listed broadcastCodes) Announces (search w records (suc seq) left)
         → Comes (listed broadcastCodes) Announces (cond b (done seq) (cond f (search w records (suc seq) left) (refused 21)))
@@ -76,36 +76,36 @@ broadcast-listed w payload records out =
 
 -- ---- taking
 
--- the code of a turn that taking gives
-abbrev Answers : Turn → Type 0
-Answers turn = listed receiveCodes (answerCode (turn .answer)) ≡ true
+-- the code of an update that taking gives
+abbrev Answers : Update → Type 0
+Answers result = listed receiveCodes (answerCode (result .answer)) ≡ true
 
 -- taking never answers announced
-updated-listed : (own q signers : ℕ) (content : List ℕ) (r : Record) → Answers (updated own q signers content r)
-unfolding updated listed receiveCodes
-updated-listed own q signers content r = go (leb q (size (gathered own q signers content r))) (isEmpty r)
+updateResult-listed : (own q signers : ℕ) (payload : List ℕ) (r : Record) → Answers (updateResult own q signers payload r)
+unfolding updateResult listed receiveCodes
+updateResult-listed own q signers payload r = go (leb q (size (joinedSigners own q signers payload r))) (isEmpty r)
   where
     go : (enough new : Bool)
         → Answers
-        (cond enough (record { answer = delivered; after = Delivered (gathered own q signers content r) content })
-        (record { answer = cond new signed kept; after = Held (gathered own q signers content r) content }))
+        (cond enough (record { answer = delivered; newRecord = Delivered (joinedSigners own q signers payload r) payload })
+        (record { answer = cond new signed kept; newRecord = Held (joinedSigners own q signers payload r) payload }))
     go true new = refl
     go false true = refl
     go false false = refl
 
-update-listed : (own q signers : ℕ) (content : List ℕ) (r : Record) → Comes (listed receiveCodes) Answers (update own q signers content r)
+update-listed : (own q signers : ℕ) (payload : List ℕ) (r : Record) → Comes (listed receiveCodes) Answers (update own q signers payload r)
 unfolding update updateReasons listed receiveCodes
-update-listed own q signers content r =
-    unless-comes (listed receiveCodes) Answers (updateReasons own q signers content r) (updated own q signers content r) refl
-    (updated-listed own q signers content r)
+update-listed own q signers payload r =
+    unless-comes (listed receiveCodes) Answers (updateReasons own q signers payload r) (updateResult own q signers payload r) refl
+    (updateResult-listed own q signers payload r)
 
-received-listed : (outcome : Outcome Turn) → Comes (listed receiveCodes) Answers outcome → listed receiveCodes (receivedCode outcome) ≡ true
+received-listed : (outcome : Outcome Update) → Comes (listed receiveCodes) Answers outcome → listed receiveCodes (receivedCode outcome) ≡ true
 received-listed (refused number) h = h
-received-listed (done turn) h = h
+received-listed (done result) h = h
 
 read-listed : (w : Config) (bundle : List ℕ) → Comes (listed receiveCodes) (λ _. Unit) (read w bundle)
 unfolding read readReasons headerReasons listed receiveCodes
-read-listed w bundle = unless-comes (listed receiveCodes) (λ _. Unit) (readReasons w bundle) (headerOf bundle) refl tt
+read-listed w bundle = unless-comes (listed receiveCodes) (λ _. Unit) (readReasons w bundle) (headerIn bundle) refl tt
 
 pub receive-listed : ReceiveListed
 unfolding receive receiveReasons listed receiveCodes
@@ -114,4 +114,4 @@ receive-listed w bundle records out =
     (then-comes (listed receiveCodes) Answers (read w bundle) _ (read-listed w bundle)
     (λ h. then-comes (listed receiveCodes) Answers (checked (receiveReasons w bundle records out h)) _
     (unless-comes (listed receiveCodes) (λ _. Unit) (receiveReasons w bundle records out h) tt refl tt)
-    (λ _. update-listed (w .own) (quorum w) (h .signers) (payload w bundle) (recordIn (recordAt w (h .sender) (h .seq) records)))))
+    (λ _. update-listed (w .own) (quorum w) (h .signers) (payloadPart w bundle) (decoded (recordAt w (slotOf h) records)))))

@@ -8,7 +8,7 @@ use Prim.Native.Nat.{ℕ, _+_}
 use lib.Dec.{eqb}
 use Rattle.refusal.specs.Outcome.{Outcome, refused, done}
 use Rattle.config.specs.declared.Config.{Config}
-use Rattle.protocol.specs.Slot.{Answer, announced, kept, signed, delivered, Turn}
+use Rattle.protocol.specs.Update.{Answer, announced, kept, signed, delivered, Update}
 use Rattle.calls.specs.Broadcast.{broadcast}
 use Rattle.calls.specs.Receive.{receive}
 
@@ -28,9 +28,9 @@ answerCode kept = 100
 answerCode signed = 101
 answerCode delivered = 102
 
-abbrev pub receivedCode : Outcome Turn → ℕ
+abbrev pub receivedCode : Outcome Update → ℕ
 receivedCode (refused number) = number
-receivedCode (done turn) = answerCode (turn .answer)
+receivedCode (done result) = answerCode (result .answer)
 
 -- the same of an answer with its count, which has no part in the code
 abbrev pub reportedCode : Outcome (Answer × ℕ) → ℕ
@@ -60,7 +60,7 @@ listed (first ∷ rest) code = eqb first code || listed rest code
 
 -- a call gives a code of its list and no other, with any table and any lists
 abbrev pub BroadcastListed : Type 0
-BroadcastListed = (w : Config) (payload records out : List ℕ) → listed broadcastCodes (announcedCode (broadcast w payload records out)) ≡ true
+BroadcastListed = (config : Config) (payload records out : List ℕ) → listed broadcastCodes (announcedCode (broadcast config payload records out)) ≡ true
 
 abbrev pub ReceiveListed : Type 0
-ReceiveListed = (w : Config) (bundle records out : List ℕ) → listed receiveCodes (receivedCode (receive w bundle records out)) ≡ true
+ReceiveListed = (config : Config) (bundle records out : List ℕ) → listed receiveCodes (receivedCode (receive config bundle records out)) ≡ true

@@ -26,7 +26,7 @@ pub extern "C" fn mbrb_broadcast(
     ensures { λ _. ⌜ now (records .exit) ≡ broadcastRecords (configOf n t d own day) (now (payload .entry)) (now (records .entry)) (now (out .entry)) ⌝ }
     ensures { λ _. ⌜ now (out .exit) ≡ broadcastOut (configOf n t d own day) (now (payload .entry)) (now (records .entry)) (now (out .entry)) ⌝ }
 {
-    let config = Config { n, t, d, own, day };
+    let config = config(n, t, d, own, day);
     announcement_code(calls::broadcast(config, payload, records, out))
 }
 
@@ -46,8 +46,15 @@ pub extern "C" fn mbrb_receive(
     ensures { λ _. ⌜ now (records .exit) ≡ receiveRecords (configOf n t d own day) (now (bundle .entry)) (now (records .entry)) (now (out .entry)) ⌝ }
     ensures { λ _. ⌜ now (out .exit) ≡ receiveOut (configOf n t d own day) (now (bundle .entry)) (now (records .entry)) (now (out .entry)) ⌝ }
 {
-    let config = Config { n, t, d, own, day };
+    let config = config(n, t, d, own, day);
     receipt_code(calls::receive(config, bundle, records, out))
+}
+
+// The configuration that a host gives as numbers.
+fn config(n: u8, t: u8, d: u8, own: u8, day: u32) -> Config
+    ensures { λ r. ⌜ r ≡ configOf n t d own day ⌝ }
+{
+    Config { n, t, d, own, day }
 }
 
 fn announcement_code(announcement: Announcement) -> u32

@@ -1,6 +1,8 @@
 -- Laws of this crate that belong to no one function.
 pub mod Numbers
-pub mod Joined
-pub mod Stored
-pub mod Listed
+pub mod WordRead
+pub mod WordWritten
+pub mod Cleared
+pub mod ComputedTests
 pub mod Same
+pub mod Booleans

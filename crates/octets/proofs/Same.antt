@@ -1,15 +1,16 @@
 -- That the test `same` is the truth of equality of lists, and what it says of lists put together and of the bytes of numbers.
 -- Assumes nothing.
 use mathlib.Core.Path.{_≡_, refl, sym, ap, ap₂, _∙_, subst}
-use mathlib.Core.Bool.{Bool, true, false, _&&_, and-eq-true-iff, true≢false}
+use mathlib.Core.Bool.{Bool, true, false, _&&_, and-assoc, and-eq-true-iff, true≢false}
 use mathlib.Core.List.{List, [], _∷_, _++_}
-use Prim.Native.Nat.{ℕ, _^_, _<_}
+use Prim.Native.Nat.{ℕ, zero, suc, _^_, _<_}
+use native.Mathlib.Nat.{zero-div, zero-mod}
 use native.Mathlib.Omega.{arith}
-use lib.Dec.{eqb, lit<}
+use lib.Dec.{eqb}
 use lib.ListN.{length, replicate, length-replicate}
 use borrow.Author.Tests.{eqb-true, eq-eqb}
-use Rattle.octets.specs.Octets.{same, blank, number, bytesOf, words}
-use Rattle.octets.proofs.Numbers.{number-bytesOf, length-bytesOf}
+use Rattle.octets.specs.Octets.{same, blank, number, bytesOf}
+use Rattle.octets.proofs.Numbers.{base-pos, number-bytesOf, length-bytesOf}
 
 -- lists that pass the test are equal,
 pub same-says : (xs ys : List ℕ) → same xs ys ≡ true → xs ≡ ys
@@ -70,31 +71,17 @@ same-bytesOf k a b ha hb = go (same (bytesOf k a) (bytesOf k b)) refl (eqb a b) 
     go false h true g = sym h ∙ ap (λ (x : ℕ). same (bytesOf k a) (bytesOf k x)) (sym (eqb-true a b g)) ∙ same-self (bytesOf k a)
     go false h false g = refl
 
-module _ (a b c d e f g h : ℕ) where
-  -- four words are the same where each is
-  pub same-words : a < 2 ^ 64 → b < 2 ^ 64 → c < 2 ^ 64 → d < 2 ^ 64 → e < 2 ^ 64 → f < 2 ^ 64 → g < 2 ^ 64 → h < 2 ^ 64
-      → same (words a b c d) (words e f g h) ≡ (eqb a e && (eqb b f && (eqb c g && eqb d h)))
-  unfolding words
-  same-words ha hb hc hd he hf hg hh =
-      first a e (bytesOf 8 b ++ (bytesOf 8 c ++ bytesOf 8 d)) (bytesOf 8 f ++ (bytesOf 8 g ++ bytesOf 8 h)) ha he
-      ∙ ap (λ (r : Bool). eqb a e && r)
-      (first b f (bytesOf 8 c ++ bytesOf 8 d) (bytesOf 8 g ++ bytesOf 8 h) hb hf
-      ∙ ap (λ (r : Bool). eqb b f && r)
-      (first c g (bytesOf 8 d) (bytesOf 8 h) hc hg ∙ ap (λ (r : Bool). eqb c g && r) (same-bytesOf 8 d h hd hh)))
-    where
-      first : (x y : ℕ) (xs ys : List ℕ) → x < 2 ^ 64 → y < 2 ^ 64 → same (bytesOf 8 x ++ xs) (bytesOf 8 y ++ ys) ≡ (eqb x y && same xs ys)
-      first x y xs ys hx hy =
-          same-append (bytesOf 8 x) (bytesOf 8 y) xs ys (length-bytesOf 8 x ∙ sym (length-bytesOf 8 y))
-          ∙ ap (λ (r : Bool). r && same xs ys) (same-bytesOf 8 x y hx hy)
+-- lists put together are blank where their parts are
+pub blank-append : (xs ys : List ℕ) → blank (xs ++ ys) ≡ (blank xs && blank ys)
+unfolding same
+blank-append [] ys = refl
+blank-append (x ∷ xs) ys = ap (λ (b : Bool). eqb x 0 && b) (blank-append xs ys) ∙ sym (and-assoc (eqb x 0) (blank xs) (blank ys))
 
-zero-words : (a b c d : ℕ) → replicate (length (words a b c d)) 0 ≡ words 0 0 0 0
-unfolding words bytesOf
-zero-words a b c d = refl
+zero-bytes : (k : ℕ) → replicate k 0 ≡ bytesOf k 0
+unfolding bytesOf
+zero-bytes zero = refl
+zero-bytes (suc k) = rw (zero-div, zero-mod, zero-bytes k)
 
--- and all 32 bytes are zero where each word is
-pub blank-words : (a b c d : ℕ) → a < 2 ^ 64 → b < 2 ^ 64 → c < 2 ^ 64 → d < 2 ^ 64
-    → blank (words a b c d) ≡ (eqb a 0 && (eqb b 0 && (eqb c 0 && eqb d 0)))
-blank-words a b c d ha hb hc hd = zeros ∙ same-words a b c d 0 0 0 0 ha hb hc hd (lit< tt) (lit< tt) (lit< tt) (lit< tt)
-  where
-    zeros : blank (words a b c d) ≡ same (words a b c d) (words 0 0 0 0)
-    zeros = ap (same (words a b c d)) (zero-words a b c d)
+-- and a number that fits is zero where its bytes are blank
+pub blank-bytesOf : (k x : ℕ) → x < 256 ^ k → blank (bytesOf k x) ≡ eqb x 0
+blank-bytesOf k x h = rw (length-bytesOf k x, zero-bytes k) (same-bytesOf k x 0 h (base-pos k))

@@ -3,7 +3,7 @@
 use mathlib.Core.Bool.{Bool, true, false, cond, _&&_}
 use mathlib.Core.List.{List, [], _∷_, _++_}
 use Prim.Native.Nat.{ℕ, zero, suc, _+_, _*_, _/_, _%_, _^_, _<_}
-use lib.Dec.{eqb}
+use lib.Dec.{eqb, leb}
 use lib.ListN.{length, getD, take, drop, replicate}
 
 -- every element is a byte
@@ -35,13 +35,17 @@ bytesOf (suc k) x = x / 256 ^ k % 256 ∷ bytesOf k x
 abbrev pub part : ℕ → ℕ → List ℕ → List ℕ
 part i k xs = take k (drop i xs)
 
--- the place in memory that is k bytes further on. A contract says by it where in a lent slice a part starts
-abbrev pub further : ℕ → ℕ × ℕ → ℕ × ℕ
-further k place = (place .0, k + place .1)
+-- the place in memory that is k bytes further on. A contract says by it where a part of a slice given by the caller starts
+abbrev pub advance : ℕ → ℕ × ℕ → ℕ × ℕ
+advance k place = (place .0, k + place .1)
 
 -- the number of eight bytes; 0 for any other count
 unfoldable pub wordOf : List ℕ → ℕ
 wordOf xs = cond (eqb (length xs) 8) (number xs) 0
+
+-- what a slice holds after a word is written over the eight bytes from index `at` on. Without room there it stays as it is
+unfoldable pub placed : (at x : ℕ) (xs : List ℕ) → List ℕ
+placed at x xs = cond (leb (at + 8) (length xs)) (take at xs ++ (bytesOf 8 x ++ drop (at + 8) xs)) xs
 
 -- four eight-byte numbers, one after the other
 unfoldable pub words : ℕ → ℕ → ℕ → ℕ → List ℕ

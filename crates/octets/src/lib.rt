@@ -3,10 +3,9 @@
 // A word is read and written low byte first, from or to its reverse: in these shapes the compiler
 // joins the eight bytes into one load or store.
 ghost use mathlib.Core.Path.{_≡_};
-ghost use mathlib.Core.List.{_++_, reverse};
-ghost use Prim.Native.Nat.{_+_, _≤_};
-ghost use lib.ListN.{length, take, drop, replicate};
-ghost use Rattle.octets.specs.Octets.{wordOf, bytesOf, filled};
+ghost use mathlib.Core.List.{reverse};
+ghost use lib.ListN.{length, replicate};
+ghost use Rattle.octets.specs.Octets.{wordOf, bytesOf, placed, filled};
 
 // The number that eight bytes write, or 0 for a slice of another length.
 pub fn word(bytes: &[u8]) -> u64
@@ -16,6 +15,19 @@ pub fn word(bytes: &[u8]) -> u64
         return 0;
     }
     reversed(low_first(bytes))
+}
+
+// Writes a word over the eight bytes from index `at` on. A slice that has no room there stays as it is.
+pub fn put(bytes: &mut [u8], at: usize, x: u64)
+    ensures { λ _. ⌜ now (bytes .exit) ≡ placed at x (now (bytes .entry)) ⌝ }
+{
+    if bytes.len() < 8 {
+        return;
+    }
+    if bytes.len() - 8 < at {
+        return;
+    }
+    store(&mut bytes[at..at + 8], x);
 }
 
 // Writes four words over a slice of 32 bytes. A slice of another length stays as it is.
@@ -42,19 +54,20 @@ pub fn clear(bytes: &mut [u8])
     }
 }
 
-fn put(bytes: &mut [u8], at: usize, x: u64)
-    requires { ⌜ at + 8 ≤ length (now bytes) ⌝ }
-    ensures { λ _. ⌜ now (bytes .exit) ≡ take at (now (bytes .entry)) ++ (bytesOf 8 x ++ drop (at + 8) (now (bytes .entry))) ⌝ }
+// Eight bytes become those of a word.
+fn store(bytes: &mut [u8], x: u64)
+    requires { ⌜ length (now bytes) ≡ 8 ⌝ }
+    ensures { λ _. ⌜ now (bytes .exit) ≡ bytesOf 8 x ⌝ }
 {
     let y = reversed(x);
-    bytes[at] = (y % 256) as u8;
-    bytes[at + 1] = (y / 0x100 % 256) as u8;
-    bytes[at + 2] = (y / 0x1_0000 % 256) as u8;
-    bytes[at + 3] = (y / 0x100_0000 % 256) as u8;
-    bytes[at + 4] = (y / 0x1_0000_0000 % 256) as u8;
-    bytes[at + 5] = (y / 0x100_0000_0000 % 256) as u8;
-    bytes[at + 6] = (y / 0x1_0000_0000_0000 % 256) as u8;
-    bytes[at + 7] = (y / 0x100_0000_0000_0000 % 256) as u8;
+    bytes[0] = (y % 256) as u8;
+    bytes[1] = (y / 0x100 % 256) as u8;
+    bytes[2] = (y / 0x1_0000 % 256) as u8;
+    bytes[3] = (y / 0x100_0000 % 256) as u8;
+    bytes[4] = (y / 0x1_0000_0000 % 256) as u8;
+    bytes[5] = (y / 0x100_0000_0000 % 256) as u8;
+    bytes[6] = (y / 0x1_0000_0000_0000 % 256) as u8;
+    bytes[7] = (y / 0x100_0000_0000_0000 % 256) as u8;
 }
 
 // Eight bytes, the first the lowest: in this order the compiler makes one load of them before it

@@ -1,7 +1,6 @@
 // Runs document 01's own examples and writes what the library answers; the file `stdout` holds what the
 // paper says, and for the bundles what its layout makes of the play's steps. First the tables, then the
 // bundles, written and read back, then each reason for which reading and writing refuse.
-use bundle::Header;
 use bundle::Reading;
 use config::Config;
 use libc::STDOUT_FILENO;
@@ -30,13 +29,7 @@ fn tables() {
 }
 
 fn table(n: u8, t: u8, d: u8) {
-    let config = Config {
-        n,
-        t,
-        d,
-        own: 0,
-        day: 7,
-    };
+    let config = day_seven(n, t, d, 0);
     decimal(n as u64);
     text(b" ");
     decimal(t as u64);
@@ -51,15 +44,20 @@ fn table(n: u8, t: u8, d: u8) {
     }
 }
 
-// The play's configuration at one of its nodes.
-fn play(own: u8) -> Config {
+// A configuration on day 7, the day of all examples.
+fn day_seven(n: u8, t: u8, d: u8, own: u8) -> Config {
     Config {
-        n: 4,
-        t: 1,
-        d: 0,
+        n,
+        t,
+        d,
         own,
         day: 7,
     }
+}
+
+// The play's configuration at one of its nodes: four nodes, one of which may lie.
+fn play(own: u8) -> Config {
+    day_seven(4, 1, 0, own)
 }
 
 // The bundles of the play's steps, by step: node, then the bytes, then what that node reads in them.
@@ -76,16 +74,9 @@ fn bundles() {
     text(b"\n");
 }
 
-// Four nodes, one of which may lie; we are node 1, on day 7.
+// How many have signed, as node 1 reads it.
 fn heard(bytes: &[u8]) -> u32 {
-    let config = Config {
-        n: 4,
-        t: 1,
-        d: 0,
-        own: 1,
-        day: 7,
-    };
-    match bundle::read(config, bytes) {
+    match bundle::read(play(1), bytes) {
         Reading::Accepted(header) => signers::size(header.signers),
         Reading::Refused(reason) => refusal::number(reason),
     }
@@ -104,15 +95,17 @@ fn step(place: u64, node: u8, signers: u8) {
 }
 
 // The bundle of step 2 with another byte at one place.
-fn with_byte(at: usize, value: u8) -> [u8; 32] {
-    let mut bytes = [0u8; 32];
+fn with_byte(at: usize, value: u8) -> [u8; bundle::SIZE] {
+    let mut bytes = [0u8; bundle::SIZE];
     bundle::write(
         play(1),
-        header(0, 0, 1),
+        0,
+        0,
+        1,
         b"\x00\x01\x02\x03\x04\x05\x06\x07\x08\x09\x0a\x0b\x0c\x0d\x0e\x0f",
         &mut bytes,
     );
-    if at < 32 {
+    if at < bundle::SIZE {
         bytes[at] = value;
     }
     bytes
@@ -140,7 +133,7 @@ fn reading(config: Config, bytes: &[u8]) {
 
 fn refusals() {
     text(b"reasons of reading\n");
-    reading(play(4), &with_byte(32, 0));
+    reading(play(4), &with_byte(bundle::SIZE, 0));
     reading(play(1), b"not a bundle");
     reading(play(1), &with_byte(6, 1));
     reading(play(1), &with_byte(3, 8));
@@ -150,29 +143,21 @@ fn refusals() {
     reading(play(1), &with_byte(15, 2));
     text(b"reasons of writing\n");
     let payload = b"sixteen bytes ok";
-    let mut out = [0xeeu8; 32];
-    let mut short = [0xeeu8; 31];
-    writing(play(4), header(0, 0, 1), payload, &mut out);
-    writing(play(1), header(4, 0, 1), payload, &mut out);
-    writing(play(1), header(0, 16, 1), payload, &mut out);
-    writing(play(1), header(0, 0, 17), payload, &mut out);
-    writing(play(1), header(0, 0, 2), payload, &mut out);
-    writing(play(1), header(0, 0, 1), b"fifteen bytes..", &mut out);
-    writing(play(1), header(0, 0, 1), payload, &mut short);
-    writing(play(1), header(0, 0, 1), payload, &mut out);
-}
-
-fn header(sender: u8, seq: u8, signers: u64) -> Header {
-    Header {
-        sender,
-        seq,
-        signers,
-    }
+    let mut out = [0xeeu8; bundle::SIZE];
+    let mut short = [0xeeu8; bundle::SIZE - 1];
+    writing(play(4), 0, 0, 1, payload, &mut out);
+    writing(play(1), 4, 0, 1, payload, &mut out);
+    writing(play(1), 0, 16, 1, payload, &mut out);
+    writing(play(1), 0, 0, 17, payload, &mut out);
+    writing(play(1), 0, 0, 2, payload, &mut out);
+    writing(play(1), 0, 0, 1, b"fifteen bytes..", &mut out);
+    writing(play(1), 0, 0, 1, payload, &mut short);
+    writing(play(1), 0, 0, 1, payload, &mut out);
 }
 
 // What writing answers, and what the outgoing bytes are then.
-fn writing(config: Config, header: Header, payload: &[u8], out: &mut [u8]) {
-    match bundle::write(config, header, payload, out) {
+fn writing(config: Config, sender: u8, seq: u8, signers: u64, payload: &[u8], out: &mut [u8]) {
+    match bundle::write(config, sender, seq, signers, payload, out) {
         Verdict::Done => {
             text(b"written ");
         }

@@ -21,7 +21,10 @@ use refusal::Verdict;
 ghost use Prim.Native.Nat.{_≤_};
 
 // The payload of the run.
-const PAYLOAD: [u8; 16] = [0, 1, 2, 3, 4, 5, 6, 7, 8, 9, 10, 11, 12, 13, 14, 15];
+const PAYLOAD: [u8; payload::SIZE] = [0, 1, 2, 3, 4, 5, 6, 7, 8, 9, 10, 11, 12, 13, 14, 15];
+
+// The records of a day at each of the four nodes.
+pub(crate) const RECORDS_SIZE: usize = config::RECORD_SIZE * (config::SLOTS as usize) * 4;
 
 // The seven steps; of each step that sends, the outgoing bytes are kept. What a node receives is what another
 // sent, as the paper's rows have it, but for step 6.
@@ -30,10 +33,10 @@ fn main() {
     let mut records1 = opened(1);
     let mut records2 = opened(2);
     let mut records3 = opened(3);
-    let mut sent1 = [0u8; 32];
-    let mut sent2 = [0u8; 32];
-    let mut sent4 = [0u8; 32];
-    let mut sent7 = [0u8; 32];
+    let mut sent1 = [0u8; bundle::SIZE];
+    let mut sent2 = [0u8; bundle::SIZE];
+    let mut sent4 = [0u8; bundle::SIZE];
+    let mut sent7 = [0u8; bundle::SIZE];
     text(b"line act unit answer reason count\n");
     sign(&mut records0, &mut records1, &mut sent1, &mut sent2);
     deliver(&mut records2, &sent2, &mut sent4);
@@ -60,15 +63,15 @@ fn node(own: u8) -> Config {
 
 // A node's records at the start of its day. The buffer may hold anything before. If opening refused and left
 // it so, each later call would find a record that no node writes, and refuse with 21.
-fn opened(own: u8) -> [u8; 2048] {
-    let mut records = [0xeeu8; 2048];
+fn opened(own: u8) -> [u8; RECORDS_SIZE] {
+    let mut records = [0xeeu8; RECORDS_SIZE];
     calls::open(node(own), &mut records);
     records
 }
 
 // Node 0 announces, and node 1 signs what it hears. On hearing it again node 1 has nothing to send.
 fn sign(records0: &mut [u8], records1: &mut [u8], sent1: &mut [u8], sent2: &mut [u8]) {
-    let mut unsent = [0u8; 32];
+    let mut unsent = [0u8; bundle::SIZE];
     broadcast(1, 0, records0, sent1);
     receive(2, 1, sent1, records1, sent2);
     receive(3, 1, sent1, records1, &mut unsent);
@@ -76,7 +79,7 @@ fn sign(records0: &mut [u8], records1: &mut [u8], sent1: &mut [u8], sent2: &mut 
 
 // Two signatures and its own make a quorum of three at node 2. Then its own bundle comes back to it.
 fn deliver(records2: &mut [u8], sent2: &[u8], sent4: &mut [u8]) {
-    let mut unsent = [0u8; 32];
+    let mut unsent = [0u8; bundle::SIZE];
     receive(4, 2, sent2, records2, sent4);
     receive(5, 2, sent4, records2, &mut unsent);
 }
@@ -84,25 +87,20 @@ fn deliver(records2: &mut [u8], sent2: &[u8], sent4: &mut [u8]) {
 // Node 3 gets a bundle for a slot of node 0, signed by node 1 alone.
 fn forge(records3: &mut [u8]) {
     let bundle = forged();
-    let mut unsent = [0u8; 32];
+    let mut unsent = [0u8; bundle::SIZE];
     receive(6, 3, &bundle, records3, &mut unsent);
 }
 
 // The bundle of step 6. `bundle::write` refuses to write it, and `encode` checks nothing.
-fn forged() -> [u8; 32] {
-    let mut bundle = [0u8; 32];
+fn forged() -> [u8; bundle::SIZE] {
+    let mut bundle = [0u8; bundle::SIZE];
     let header = Header {
+        day: node(3).day,
         sender: 0,
         seq: 0,
         signers: 2,
     };
-    bundle::encode(
-        7,
-        header,
-        0x0001_0203_0405_0607,
-        0x0809_0a0b_0c0d_0e0f,
-        &mut bundle,
-    );
+    bundle::encode(header, payload::load(&PAYLOAD), &mut bundle);
     bundle
 }
 
@@ -157,7 +155,14 @@ fn refused(reason: Refusal) {
 fn deliveries(records0: &[u8], records1: &[u8], records2: &[u8], records3: &[u8]) {
     text(b"sender number units percent\n");
     for slot in 0..64 {
-        count(slot / 16, slot % 16, records0, records1, records2, records3);
+        count(
+            slot / config::SLOTS,
+            slot % config::SLOTS,
+            records0,
+            records1,
+            records2,
+            records3,
+        );
     }
 }
 
@@ -223,9 +228,9 @@ fn payload_shown(records2: &[u8]) {
 }
 
 // Node 1 has signed, and now hears of a quorum. The records are a copy: the run goes on without this.
-fn quorum_heard(before: [u8; 2048], bundle: &[u8]) {
+fn quorum_heard(before: [u8; RECORDS_SIZE], bundle: &[u8]) {
     let mut records = before;
-    let mut out = [0u8; 32];
+    let mut out = [0u8; bundle::SIZE];
     text(b"has unit 1 something to send on taking the bundle of line 4\n");
     if to_send(bundle, &mut records, &mut out) {
         text(b"yes\n");

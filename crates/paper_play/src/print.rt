@@ -13,16 +13,16 @@ pub(crate) fn decimal(x: u64) {
 
 // A bundle in hexadecimal: day, sender, number and two zero bytes, then signers, then payload.
 pub(crate) fn bundle_hex(bundle: &[u8]) {
-    if bundle.len() == 32 {
+    if bundle.len() == bundle::SIZE {
         word_hex(&bundle[0..8]);
         word_hex(&bundle[8..16]);
-        payload_hex(&bundle[16..32]);
+        payload_hex(&bundle[bundle::PAYLOAD_AT..bundle::SIZE]);
     }
 }
 
 // A payload in hexadecimal.
 pub(crate) fn payload_hex(payload: &[u8]) {
-    if payload.len() == 16 {
+    if payload.len() == payload::SIZE {
         word_hex(&payload[0..8]);
         word_hex(&payload[8..16]);
     }

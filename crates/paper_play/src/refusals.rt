@@ -3,6 +3,7 @@
 // A refusal changes no byte: the records are compared with a copy from before the call, and the outgoing bytes,
 // which are all ee before it, with that.
 use crate::PAYLOAD;
+use crate::RECORDS_SIZE;
 use crate::node;
 use crate::opened;
 use crate::print::decimal;
@@ -14,7 +15,7 @@ use refusal::Verdict;
 
 // On the records that the run left: `held` of node 1, which holds node 0's payload, and `done` of node 2, which
 // delivered it. The bundle is the one that node 0 announced.
-pub(crate) fn all(held: [u8; 2048], done: [u8; 2048], bundle: [u8; 32]) {
+pub(crate) fn all(held: [u8; RECORDS_SIZE], done: [u8; RECORDS_SIZE], bundle: [u8; bundle::SIZE]) {
     text(b"refused: call, reason, records and outgoing bytes\n");
     open_reasons(held);
     broadcast_reasons(held);
@@ -26,7 +27,7 @@ pub(crate) fn all(held: [u8; 2048], done: [u8; 2048], bundle: [u8; 32]) {
 }
 
 // Reasons 1 and 20.
-fn open_reasons(held: [u8; 2048]) {
+fn open_reasons(held: [u8; RECORDS_SIZE]) {
     let mut records = held;
     let mut short = [0xeeu8; 2047];
     open(node(4), &held, &mut records);
@@ -34,7 +35,7 @@ fn open_reasons(held: [u8; 2048]) {
 }
 
 // Reasons 1, 9, 10, 20, 21 and 25.
-fn broadcast_reasons(held: [u8; 2048]) {
+fn broadcast_reasons(held: [u8; RECORDS_SIZE]) {
     broadcast(node(4), &PAYLOAD, held);
     broadcast(node(1), b"fifteen bytes..", held);
     short_broadcasts(held);
@@ -43,7 +44,7 @@ fn broadcast_reasons(held: [u8; 2048]) {
 }
 
 // Reasons 1 to 8, the reader's.
-fn read_reasons(held: [u8; 2048], bundle: [u8; 32]) {
+fn read_reasons(held: [u8; RECORDS_SIZE], bundle: [u8; bundle::SIZE]) {
     receive(node(4), &bundle, held);
     receive(node(1), b"not a bundle", held);
     receive_altered(bundle, 6, 1, held);
@@ -55,7 +56,7 @@ fn read_reasons(held: [u8; 2048], bundle: [u8; 32]) {
 }
 
 // Reasons 10 and 20 to 24.
-fn receive_reasons(held: [u8; 2048], done: [u8; 2048], bundle: [u8; 32]) {
+fn receive_reasons(held: [u8; RECORDS_SIZE], done: [u8; RECORDS_SIZE], bundle: [u8; bundle::SIZE]) {
     short_receives(held, &bundle);
     receive(node(1), &bundle, malformed(held, 0));
     receive(node(2), &bundle, done);
@@ -76,19 +77,19 @@ fn delivered_reasons(held: &[u8], wrong: &[u8]) {
 }
 
 // The records with the sender's first one in state 3, which no record has.
-fn malformed(records: [u8; 2048], sender: u8) -> [u8; 2048] {
+fn malformed(records: [u8; RECORDS_SIZE], sender: u8) -> [u8; RECORDS_SIZE] {
     let mut other = records;
-    let place = node(1).place(sender, 0);
-    if place < 2048 {
+    let place = node(1).place(node(1).slot_of_day(sender, 0));
+    if place < RECORDS_SIZE {
         other[place] = 3;
     }
     other
 }
 
 // The records of node 1 after it announced as often as a day allows.
-fn used_up() -> [u8; 2048] {
+fn used_up() -> [u8; RECORDS_SIZE] {
     let mut records = opened(1);
-    let mut out = [0u8; 32];
+    let mut out = [0u8; bundle::SIZE];
     use_up(&mut records, &mut out);
     records
 }
@@ -107,19 +108,19 @@ fn open(config: Config, before: &[u8], records: &mut [u8]) {
 }
 
 // Announces over a copy of the records.
-fn broadcast(config: Config, payload: &[u8], before: [u8; 2048]) {
+fn broadcast(config: Config, payload: &[u8], before: [u8; RECORDS_SIZE]) {
     let mut records = before;
-    let mut out = [0xeeu8; 32];
+    let mut out = [0xeeu8; bundle::SIZE];
     broadcast_over(config, payload, &before, &mut records, &mut out);
 }
 
 // Announces with outgoing bytes, and then with records, that are one byte short.
-fn short_broadcasts(held: [u8; 2048]) {
+fn short_broadcasts(held: [u8; RECORDS_SIZE]) {
     let mut records = held;
     let mut short_out = [0xeeu8; 31];
     broadcast_over(node(1), &PAYLOAD, &held, &mut records, &mut short_out);
     let mut short = [0xeeu8; 2047];
-    let mut out = [0xeeu8; 32];
+    let mut out = [0xeeu8; bundle::SIZE];
     broadcast_over(node(1), &PAYLOAD, &[0xeeu8; 2047], &mut short, &mut out);
 }
 
@@ -140,34 +141,34 @@ fn broadcast_over(
 }
 
 // Receives a bundle over a copy of the records.
-fn receive(config: Config, bundle: &[u8], before: [u8; 2048]) {
+fn receive(config: Config, bundle: &[u8], before: [u8; RECORDS_SIZE]) {
     let mut records = before;
-    let mut out = [0xeeu8; 32];
+    let mut out = [0xeeu8; bundle::SIZE];
     receive_over(config, bundle, &before, &mut records, &mut out);
 }
 
 // Receives the bundle with another byte at one place, at node 1.
-fn receive_altered(bundle: [u8; 32], at: usize, value: u8, before: [u8; 2048]) {
+fn receive_altered(bundle: [u8; bundle::SIZE], at: usize, value: u8, before: [u8; RECORDS_SIZE]) {
     let altered = with_byte(bundle, at, value);
     receive(node(1), &altered, before);
 }
 
 // The bundle with another byte at one place.
-fn with_byte(bundle: [u8; 32], at: usize, value: u8) -> [u8; 32] {
+fn with_byte(bundle: [u8; bundle::SIZE], at: usize, value: u8) -> [u8; bundle::SIZE] {
     let mut other = bundle;
-    if at < 32 {
+    if at < bundle::SIZE {
         other[at] = value;
     }
     other
 }
 
 // Receives a bundle with outgoing bytes, and then with records, that are one byte short.
-fn short_receives(held: [u8; 2048], bundle: &[u8]) {
+fn short_receives(held: [u8; RECORDS_SIZE], bundle: &[u8]) {
     let mut records = held;
     let mut short_out = [0xeeu8; 31];
     receive_over(node(1), bundle, &held, &mut records, &mut short_out);
     let mut short = [0xeeu8; 2047];
-    let mut out = [0xeeu8; 32];
+    let mut out = [0xeeu8; bundle::SIZE];
     receive_over(node(1), bundle, &[0xeeu8; 2047], &mut short, &mut out);
 }
 
@@ -238,8 +239,8 @@ fn delivered_row(reason: u32, shown: usize) {
 
 // Whether the records are as before, and the outgoing bytes, of which there are at most 32, all ee.
 fn unchanged(before: &[u8], records: &[u8], out: &[u8]) -> bool {
-    let unsent = [0xeeu8; 32];
-    out.len() <= 32 && same(&unsent[0..out.len()], out) && same(before, records)
+    let unsent = [0xeeu8; bundle::SIZE];
+    out.len() <= bundle::SIZE && same(&unsent[0..out.len()], out) && same(before, records)
 }
 
 // Whether two slices hold the same bytes.

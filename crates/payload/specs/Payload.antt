@@ -9,8 +9,8 @@ use Rattle.octets.specs.Octets.{bytesOf}
 use Rattle.payload.specs.declared.Payload.{Payload}
 
 -- how many bytes a payload has
-abbrev pub size : ℕ
-size = 16
+abbrev pub payloadSize : ℕ
+payloadSize = 16
 
 -- the bytes of a payload
 unfoldable pub bytes : Payload → List ℕ
@@ -18,4 +18,4 @@ bytes payload = bytesOf 8 (payload .high) ++ bytesOf 8 (payload .low)
 
 -- the bytes of the payload that is loaded from a slice: the slice's own, and zeros if it has another length
 unfoldable pub loaded : List ℕ → List ℕ
-loaded slice = cond (eqb (length slice) size) slice (replicate size 0)
+loaded slice = cond (eqb (length slice) payloadSize) slice (replicate payloadSize 0)

@@ -28,6 +28,16 @@ pub fn load(slice: &[u8]) -> Payload
 }
 
 impl Payload {
+    // The payload's 16 bytes.
+    pub fn to_bytes(self) -> [u8; SIZE]
+        ensures { λ r. ⌜ r ≡ bytes self ⌝ }
+    {
+        let mut out = [0u8; SIZE];
+        octets::put(&mut out, 0, self.high);
+        octets::put(&mut out, 8, self.low);
+        out
+    }
+
     // Whether the two have the same bytes.
     pub fn equals(self, other: Payload) -> bool
         ensures { λ r. ⌜ r ≡ sameBytes (bytes self) (bytes other) ⌝ }

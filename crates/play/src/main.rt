@@ -4,14 +4,18 @@
 use libc::STDERR_FILENO;
 use libc::STDIN_FILENO;
 use libc::STDOUT_FILENO;
+use nodes::RECORDS_SPACE;
+use run::CHUNK;
+use run::OUT_SPACE;
+use stages::LINE_SPACE;
 
 // A proved loop has to end, and nothing says that an input does. So the loop counts its reads down from a
 // number that no run uses up: at a billion a second this takes 584 years.
 fn main() {
-    let mut chunk = [0u8; 16384];
-    let mut held = [0u8; 121];
-    let mut records = [0u8; 32768];
-    let mut out = [0u8; 1310720];
+    let mut chunk = [0u8; CHUNK];
+    let mut line = [0u8; LINE_SPACE];
+    let mut records = [0u8; RECORDS_SPACE];
+    let mut out = [0u8; OUT_SPACE];
     let mut run = run::start();
     let mut reads = u64::MAX;
     while 0 < reads {
@@ -22,12 +26,12 @@ fn main() {
             return;
         }
         if got == 0 {
-            let len = run::finish(run, &held, &mut records, &mut out);
+            let len = run::finish(run, &line, &mut records, &mut out);
             print(&out[..len]);
             return;
         }
         let n = io::count(got, &chunk);
-        let fed = run::feed(run, &chunk[..n], &mut held, &mut records, &mut out);
+        let fed = run::feed(run, &chunk[..n], &mut line, &mut records, &mut out);
         run = fed.run;
         let len = fed.len;
         if !print(&out[..len]) {

@@ -1,6 +1,6 @@
--- Demand 2, first sentence, on values: what specs/Algorithm.antt claims. Announcing on an empty record does what mbrb_broadcast does, and
--- taking does what the algorithm does when it receives the bundle, up to the differences of document 01. By cases on the record, then on the
--- tests of taking. Assumes nothing.
+-- Demand 2, first sentence, on values: what specs/Algorithm.antt claims. Broadcasting on an empty record does what mbrb_broadcast does, and
+-- receiving does what the algorithm does with the bundle, up to the differences of document 01. By cases on the record, then on the tests of
+-- receiving. Assumes nothing.
 use mathlib.Core.Path.{_≡_, refl, sym, ap, _∙_}
 use mathlib.Core.Logic.{inl, inr}
 use mathlib.Core.Bool.{Bool, true, false, cond, and-false, not}
@@ -12,10 +12,11 @@ use borrow.Author.Tests.{ltb-true, lt-leb, eq-eqb, le-leb, ltb-false}
 use Rattle.octets.specs.Octets.{same}
 use Rattle.octets.proofs.Same.{same-says, same-self, same-flip}
 use Rattle.signers.specs.Signers.{member, insert, union, size}
+use Rattle.signers.proofs.Counting.{more-than-half}
 use Rattle.signers.proofs.Members.{nobody}
 use Rattle.refusal.specs.Outcome.{unless}
-use Rattle.protocol.specs.Slot.{Record, Empty, Held, Delivered, isEmpty, Turn, kept, signed, delivered, announcedBy, updateReasons, gathered, updated, update}
-use Rattle.protocol.specs.Algorithm.{State, Run, save, sign, bundleEffect, onBroadcast, line9, line5, andLine9, onBundle, keepOne, sendOnce, stateOf, effectsOf, SameState, BroadcastFollows, Follows, UnsignedIgnored, UpdateFollows}
+use Rattle.protocol.specs.Update.{Record, Empty, Held, Delivered, isEmpty, Update, kept, signed, delivered, announcedBy, updateReasons, joinedSigners, updateResult, update}
+use Rattle.protocol.specs.Algorithm.{State, Run, save, sign, bundleEffect, onBroadcast, line9, line5, andLine9, onBundle, keepOne, sendOnce, stateOf, effectsOf, SameState, BroadcastFollows, Follows, UnsignedIgnored, UpdateFollows, LeastQuorumIsLine9}
 
 -- ---- words and messages
 
@@ -28,7 +29,7 @@ one-joined sigs own = go (ltb own 64)
     go true = ap (bitOr sigs) (or-zero-l (2 ^ own))
     go false = or-zero-r sigs
 
--- where one message is kept, what is saved for it decides
+-- If only one message's signatures stay, it is enough to know what is saved for that message.
 one-kept : (saved : List ℕ → ℕ) (m x : List ℕ) (g : ℕ) → saved m ≡ g → cond (same m x) g 0 ≡ cond (same m x) (saved x) 0
 one-kept saved m x g e = go (same m x) refl
   where
@@ -36,90 +37,95 @@ one-kept saved m x g e = go (same m x) refl
     go true h = rw (h, ← e) (ap saved (same-says m x h))
     go false h = rw h
 
--- ---- announcing
+-- ---- the quorum
 
--- the word of the announcing node alone is saved, for its message alone
+pub least-quorum-is-line9 : LeastQuorumIsLine9
+least-quorum-is-line9 n t k = more-than-half (n + t) k
+
+-- ---- broadcasting
+
+-- the node's own signature is saved, for its message, and nothing else
 pub broadcast-follows : BroadcastFollows
 unfolding stateOf announcedBy onBroadcast sign save bundleEffect
 broadcast-follows own m = (record { alike = λ x. rw (same-flip x m); signed-alike = refl; delivered-alike = refl }, rw (same-self m))
 
--- ---- taking
+-- ---- receiving
 
--- the state is the paper's with one message kept, and the effects are the paper's with the repeated bundle left out
-abbrev Alike : List ℕ → Turn → Run → Type 0
-Alike m turn run = SameState (stateOf (turn .after)) (keepOne m (run .state)) × (effectsOf turn ≡ sendOnce (run .effects))
+-- The state is the paper's, of which only one message's signatures stay, and the effects are the paper's without the repeated bundle.
+abbrev Alike : List ℕ → Update → Run → Type 0
+Alike m result run = SameState (stateOf (result .newRecord)) (keepOne m (run .state)) × (effectsOf result ≡ sendOnce (run .effects))
 
-module _ (n t own sender q sigs : ℕ) (m : List ℕ) (r : Record) (quorum : (k : ℕ) → leb q k ≡ ltb (n + t) (k + k)) where
-  -- Where lines 4 to 8 save for the message what the record gathers, and send a bundle if the record was empty, taking follows: line 9 delivers
-  -- where taking does.
-  gathers : (σ : State) → σ .saved m ≡ gathered own q sigs m r → σ .hasSigned ≡ true → σ .hasDelivered ≡ false
-      → Alike m (updated own q sigs m r) (andLine9 n t own sender m (record { state = σ; effects = cond (isEmpty r) (bundleEffect m σ ∷ []) [] }))
-  unfolding updated andLine9 line9 bundleEffect stateOf keepOne effectsOf sendOnce
-  gathers σ e made waits = go (leb q (size word)) (isEmpty r) (rw e (sym (quorum (size word))))
+module _ (own q sender sigs : ℕ) (m : List ℕ) (r : Record) where
+  -- If lines 4 to 8 have saved the record's new signers for the message, and have sent a bundle where the record was empty, then receiving follows:
+  -- line 9 delivers exactly where receiving does.
+  joins-alike : (σ : State) → σ .saved m ≡ joinedSigners own q sigs m r → σ .hasSigned ≡ true → σ .hasDelivered ≡ false
+      → Alike m (updateResult own q sigs m r) (andLine9 own q sender m (record { state = σ; effects = cond (isEmpty r) (bundleEffect m σ ∷ []) [] }))
+  unfolding updateResult andLine9 line9 bundleEffect stateOf keepOne effectsOf sendOnce
+  joins-alike σ e made waits = go (leb q (size word)) (isEmpty r) (ap (λ (k : ℕ). leb q (size k)) e)
     where
       word : ℕ
-      word = gathered own q sigs m r
+      word = joinedSigners own q sigs m r
 
       state-alike : (ours theirs : Bool) → ours ≡ theirs
           → SameState (record { saved = λ x. cond (same m x) word 0; hasSigned = true; hasDelivered = ours })
           (keepOne m (record { saved = σ .saved; hasSigned = σ .hasSigned; hasDelivered = theirs }))
       state-alike ours theirs d = record { alike = λ x. one-kept (σ .saved) m x word e; signed-alike = sym made; delivered-alike = d }
 
-      go : (full fresh : Bool) → ltb (n + t) (size (σ .saved m) + size (σ .saved m)) ≡ full
-          → Alike m (cond full (record { answer = delivered; after = Delivered word m }) (record { answer = cond fresh signed kept; after = Held word m }))
-          (andLine9 n t own sender m (record { state = σ; effects = cond fresh (bundleEffect m σ ∷ []) [] }))
+      go : (full fresh : Bool) → leb q (size (σ .saved m)) ≡ full
+          → Alike m (cond full (record { answer = delivered; newRecord = Delivered word m }) (record { answer = cond fresh signed kept; newRecord = Held word m }))
+          (andLine9 own q sender m (record { state = σ; effects = cond fresh (bundleEffect m σ ∷ []) [] }))
       go true true h = rw h (state-alike true true refl, rw (eq-eqb (σ .saved m) (σ .saved m) refl, same-self m, e))
       go true false h = rw h (state-alike true true refl, rw e)
       go false true h = rw h (state-alike false (σ .hasDelivered) (sym waits), rw e)
       go false false h = rw h (state-alike false (σ .hasDelivered) (sym waits), refl)
 
   -- with fewer signatures than the quorum, line 9 does nothing
-  too-few : (σ : State) → σ .saved m ≡ sigs → ltb (size sigs) q ≡ true → line9 n t own sender m σ ≡ record { state = σ; effects = [] }
+  too-few : (σ : State) → σ .saved m ≡ sigs → ltb (size sigs) q ≡ true → line9 own q sender m σ ≡ record { state = σ; effects = [] }
   unfolding line9
-  too-few σ e f = rw (e, ← (quorum (size sigs)), lt-leb q (size sigs) (ltb-true (size sigs) q f))
+  too-few σ e f = rw (e, lt-leb q (size sigs) (ltb-true (size sigs) q f))
 
   -- with a quorum, it delivers
-  enough : (σ : State) → σ .saved m ≡ sigs → ltb (size sigs) q ≡ false → line9 n t own sender m σ .state .hasDelivered ≡ true
+  enough : (σ : State) → σ .saved m ≡ sigs → ltb (size sigs) q ≡ false → line9 own q sender m σ .state .hasDelivered ≡ true
   unfolding line9
-  enough σ e f = rw (e, ← (quorum (size sigs)), le-leb q (size sigs) (ltb-false (size sigs) q f))
+  enough σ e f = rw (e, le-leb q (size sigs) (ltb-false (size sigs) q f))
 
 -- without its sender's signature a bundle does not pass line 3
 pub unsigned-ignored : UnsignedIgnored
 unfolding onBundle
-unsigned-ignored n t own sender sigs m σ e =
+unsigned-ignored own q sender sigs m σ e =
     rw (e, and-false (not (σ .hasDelivered))) (record { alike = λ x. refl; signed-alike = refl; delivered-alike = refl }, refl)
 
 -- Empty: 23, or lines 4 to 12. Held: this message, and lines 4 and 9 to 12; or another, and 23, 24, or a full quorum at once. Delivered: 22.
 pub update-follows : UpdateFollows
-unfolding update updateReasons unless gathered onBundle line5 andLine9 save sign stateOf keepOne bundleEffect
-update-follows n t own sender q sigs m Empty quorum present = go (member sigs own) refl
+unfolding update updateReasons unless joinedSigners onBundle line5 andLine9 save sign stateOf keepOne bundleEffect
+update-follows own q sender sigs m Empty present = go (member sigs own) refl
   where
-    go : (ours : Bool) → member sigs own ≡ ours → Follows n t own sender sigs m Empty (update own q sigs m Empty)
+    go : (ours : Bool) → member sigs own ≡ ours → Follows own q sender sigs m Empty (update own q sigs m Empty)
     go true e = rw e (inr (inl (refl, refl, e, nobody own)))
     go false e =
         let saved = sign own m (save m sigs (stateOf Empty)) in
-        rw (e, present) (refl, refl, gathers n t own sender q sigs m Empty quorum saved (rw (same-self m) (one-joined sigs own)) refl refl)
-update-follows n t own sender q sigs m (Held s p) quorum present = go (same p m) refl (member sigs own) refl (ltb (size sigs) q) refl
+        rw (e, present) (refl, refl, joins-alike own q sender sigs m Empty saved (rw (same-self m) (one-joined sigs own)) refl refl)
+update-follows own q sender sigs m (Held s p) present = go (same p m) refl (member sigs own) refl (ltb (size sigs) q) refl
   where
     saved : State
     saved = save m sigs (stateOf (Held s p))
 
-    -- what is saved for another message is dropped again
+    -- the signatures that were saved for another message do not stay
     dropped : same p m ≡ false → (x : List ℕ) (b : Bool) → same p x ≡ b → cond (same p x) (saved .saved x) 0 ≡ cond (same p x) s 0
     dropped h x true k = let apart : same x m ≡ false = ap (λ y. same y m) (sym (same-says p x k)) ∙ h in rw (k, apart)
     dropped h x false k = rw k
 
     go : (held : Bool) → same p m ≡ held → (ours : Bool) → member sigs own ≡ ours → (few : Bool) → ltb (size sigs) q ≡ few
-        → Follows n t own sender sigs m (Held s p) (update own q sigs m (Held s p))
+        → Follows own q sender sigs m (Held s p) (update own q sigs m (Held s p))
     go true h ours e few f =
-        rw (h, and-false (member sigs own), present) (refl, rw h, gathers n t own sender q sigs m (Held s p) quorum saved (rw (same-self m, h)) refl refl)
+        rw (h, and-false (member sigs own), present) (refl, rw h, joins-alike own q sender sigs m (Held s p) saved (rw (same-self m, h)) refl refl)
     go false h true e few f = rw (h, e) (inr (inl (refl, refl, e, rw h (nobody own))))
     go false h false e true f =
-        let quiet = too-few n t own sender q sigs m (Held s p) quorum saved (rw (same-self m, h)) f in
+        let quiet = too-few own q sender sigs m (Held s p) saved (rw (same-self m, h)) f in
         let back : SameState (keepOne p saved) (stateOf (Held s p)) = record { alike = λ x. dropped h x (same p x) refl; signed-alike = refl; delivered-alike = refl } in
         rw (h, e, f, present, quiet) (inr (inr (refl, refl, rw h, back, refl)))
     go false h false e false f =
-        let full = enough n t own sender q sigs m (Held s p) quorum saved (rw (same-self m, h)) f in
-        rw (h, e, f, present) (refl, rw h (ap not full), gathers n t own sender q sigs m (Held s p) quorum saved (rw (same-self m, h)) refl refl)
-update-follows n t own sender q sigs m (Delivered s p) quorum present =
+        let full = enough own q sender sigs m (Held s p) saved (rw (same-self m, h)) f in
+        rw (h, e, f, present) (refl, rw h (ap not full), joins-alike own q sender sigs m (Held s p) saved (rw (same-self m, h)) refl refl)
+update-follows own q sender sigs m (Delivered s p) present =
     inl (refl, refl, record { alike = λ x. refl; signed-alike = refl; delivered-alike = refl }, refl)

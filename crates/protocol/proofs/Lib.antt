@@ -1,16 +1,17 @@
--- What is shown of the protocol on values: the theorem on one slot, from the laws of traces and turns; that a slot's step is the
--- source's algorithm; and that two of the theorem's bounds are tight.
-pub mod Traces
-pub mod Turns
-pub mod Sound
-pub mod Steps
-pub mod Told
-pub mod Known
-pub mod Vouched
-pub mod Absorbed
-pub mod Safety
-pub mod Delivering
+-- What is proved of the protocol on values: the theorem about one slot, from the laws of traces and updates; that an update follows the
+-- paper's algorithm; and that two of the theorem's bounds are tight.
+pub mod CorrectNodes
+pub mod TraceLaws
+pub mod UpdateCases
+pub mod WellFormed
+pub mod TraceInduction
+pub mod SentSoFar
+pub mod GenuineSignatures
+pub mod CorrectSender
+pub mod ReceivedBundleKept
+pub mod AgreementValidity
+pub mod Delivery
 pub mod OneSlot
 pub mod Algorithm
-pub mod Tested
+pub mod ComputedTests
 pub mod Tight

@@ -1,16 +1,16 @@
 -- The theorem on values: the six claims about one slot together. Assumes nothing.
 use Rattle.protocol.specs.OneSlot.{OneSlotHolds}
-use Rattle.protocol.proofs.Told.{delivers-once, sends-twice, announces-once}
-use Rattle.protocol.proofs.Safety.{agreement, validity}
-use Rattle.protocol.proofs.Delivering.{delivery}
+use Rattle.protocol.proofs.SentSoFar.{delivers-once, broadcasts-once, sends-at-most-twice}
+use Rattle.protocol.proofs.AgreementValidity.{agreement, validity}
+use Rattle.protocol.proofs.Delivery.{delivery}
 
--- no two correct nodes deliver different payloads, a correct sender's slot yields its announcement, and what is handed on is delivered
 pub one-slot-holds : OneSlotHolds
-one-slot-holds n t d q sender faulty trace quorum few lawful = (
-  agreement n t d q sender faulty trace quorum few lawful,
-  validity n t d q sender faulty trace quorum few lawful,
-  delivers-once q trace,
-  sends-twice q trace,
-  announces-once q trace,
-  delivery n t d q sender faulty trace quorum few lawful,
-)
+one-slot-holds n t d q sender faulty list assumed =
+    record {
+      agreement = agreement n t d q sender faulty list (assumed .quorum) (assumed .few) (assumed .lawful);
+      delivers-once = delivers-once q list;
+      validity = validity n t d q sender faulty list (assumed .quorum) (assumed .few) (assumed .lawful);
+      broadcasts-once = broadcasts-once q list;
+      sends-at-most-twice = sends-at-most-twice q list;
+      delivery = delivery n t d q sender faulty list (assumed .quorum) (assumed .few) (assumed .lawful);
+    }

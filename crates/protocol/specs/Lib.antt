@@ -1,5 +1,5 @@
 -- What the contracts of the crates above cite, and what is claimed of the protocol on values.
-pub mod Slot
+pub mod Update
 pub mod Algorithm
 pub mod Trace
 pub mod OneSlot

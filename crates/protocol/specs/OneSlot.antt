@@ -1,6 +1,6 @@
--- One slot at all correct nodes together, on values: the argument behind demand 3. A trace has what concerns this slot and nothing else, so
--- that neither the bytes of a record nor the day nor the other slots enter it. The quorum q is any number with the two bounds of `Quorum`.
--- The theorem about the calls themselves, which rests on this one, is stated in the crate `system`.
+-- One slot at all correct nodes together, on values: the argument of demand 3. A trace has the acts in this slot and nothing else, so bytes,
+-- days and other slots do not occur in it. The quorum q is any number within the bounds of `Quorum`.
+-- The theorem about the calls themselves is stated in the crate `system`, and rests on this one. It is proved in proofs/OneSlot.antt.
 -- Assumes nothing.
 use mathlib.Core.Path.{_≡_}
 use mathlib.Core.Logic.{_⊎_}
@@ -12,144 +12,165 @@ use Rattle.octets.specs.Octets.{same}
 use Rattle.signers.specs.Sets.{NodeSet, count, both}
 use Rattle.signers.specs.Signers.{member, within}
 use Rattle.refusal.specs.Outcome.{Outcome, _if_, unless, after}
-use Rattle.protocol.specs.Slot.{Record, Empty, signersOf, payloadOf, isEmpty, Turn, announced, sends, delivers, announcedBy, update}
-use Rattle.protocol.specs.Trace.{Trace, start, _then_calls_, state, ever, times}
+use Rattle.protocol.specs.Update as protocol
+use Rattle.protocol.specs.Update.{Record, Empty, signersOf, payloadOf, isEmpty, Update, announced, announcedBy, update}
+use Rattle.protocol.specs.Trace as trace
+use Rattle.protocol.specs.Trace.{Trace, start, _then_calls_}
 
--- what concerns a slot at a node: the node announces in it, or is handed a bundle with these signers and this payload
+-- What concerns a slot at a node: it broadcasts a payload there, or it receives a bundle of the slot with these signers and this payload.
 pub data Act : Type 0 where
-  announce : (payload : List ℕ) → Act
-  hand : (signers : ℕ) (payload : List ℕ) → Act
+  Broadcast : (payload : List ℕ) → Act
+  Receive : (signers : ℕ) (payload : List ℕ) → Act
 
 module _ (q : ℕ) where
-  -- announcing uses an empty record, and a bundle updates the record as document 01 says
-  unfoldable pub play : ℕ → Act → Record → Outcome Turn
-  play own (announce payload) r = unless ((25 if not (isEmpty r)) ∷ []) (record { answer = announced; after = announcedBy own payload })
-  play own (hand signers payload) r = update own q signers payload r
+  -- ---- one act at a node that finds the record r
 
-  unfoldable pub next : ℕ → Act → Record → Record
-  next own act r = after (play own act r) (λ turn. turn .after) r
+  -- Broadcasting needs an empty record. Receiving updates the record.
+  unfoldable pub outcome : (own : ℕ) (act : Act) (r : Record) → Outcome Update
+  outcome own (Broadcast payload) r =
+      unless ((25 if not (isEmpty r)) ∷ []) (record { answer = announced; newRecord = announcedBy own payload })
+  outcome own (Receive signers payload) r = update own q signers payload r
 
-  -- ---- what is asked of one act at a node that finds its record so
+  -- the record that the act leaves
+  unfoldable pub recordAfter : (own : ℕ) (act : Act) (r : Record) → Record
+  recordAfter own act r = after (outcome own act r) (λ result. result .newRecord) r
 
-  -- it sends a bundle; it sends this one
-  unfoldable pub sending : ℕ → Act → Record → Bool
-  sending own act r = after (play own act r) (λ turn. sends (turn .answer)) false
+  -- the node sends a bundle; it sends this bundle
+  unfoldable pub sends : (own : ℕ) (act : Act) (r : Record) → Bool
+  sends own act r = after (outcome own act r) (λ result. protocol.sends (result .answer)) false
 
-  unfoldable pub sendingThis : ℕ → List ℕ → ℕ → Act → Record → Bool
-  sendingThis signers payload own act r =
-      after (play own act r) (λ turn. sends (turn .answer) && (eqb (signersOf (turn .after)) signers && same (payloadOf (turn .after)) payload)) false
+  unfoldable pub sendsThis : (signers : ℕ) (payload : List ℕ) (own : ℕ) (act : Act) (r : Record) → Bool
+  sendsThis signers payload own act r =
+      after (outcome own act r)
+      (λ result. protocol.sends (result .answer) && (eqb (signersOf (result .newRecord)) signers && same (payloadOf (result .newRecord)) payload))
+      false
 
-  -- it signs the payload: it sends a bundle with the payload in which its own bit is set
-  unfoldable pub signing : List ℕ → ℕ → Act → Record → Bool
-  signing payload own act r =
-      after (play own act r) (λ turn. sends (turn .answer) && (same (payloadOf (turn .after)) payload && member (signersOf (turn .after)) own)) false
+  -- the node signs the payload: it sends a bundle with the payload in which its own bit is set
+  unfoldable pub signs : (payload : List ℕ) (own : ℕ) (act : Act) (r : Record) → Bool
+  signs payload own act r =
+      after (outcome own act r)
+      (λ result. protocol.sends (result .answer) && (same (payloadOf (result .newRecord)) payload && member (signersOf (result .newRecord)) own))
+      false
 
-  -- it delivers; it delivers the payload
-  unfoldable pub delivering : ℕ → Act → Record → Bool
-  delivering own act r = after (play own act r) (λ turn. delivers (turn .answer)) false
+  -- the node delivers; it delivers this payload
+  unfoldable pub delivers : (own : ℕ) (act : Act) (r : Record) → Bool
+  delivers own act r = after (outcome own act r) (λ result. protocol.delivers (result .answer)) false
 
-  unfoldable pub deliveringThis : List ℕ → ℕ → Act → Record → Bool
-  deliveringThis payload own act r = after (play own act r) (λ turn. delivers (turn .answer) && same (payloadOf (turn .after)) payload) false
+  unfoldable pub deliversThis : (payload : List ℕ) (own : ℕ) (act : Act) (r : Record) → Bool
+  deliversThis payload own act r =
+      after (outcome own act r) (λ result. protocol.delivers (result .answer) && same (payloadOf (result .newRecord)) payload) false
 
-  -- it announces; it announces the payload
-  unfoldable pub announcing : ℕ → Act → Record → Bool
-  announcing own (announce payload) r = isEmpty r
-  announcing own (hand signers payload) r = false
+  -- the node broadcasts, and is not refused; it broadcasts this payload
+  unfoldable pub broadcasts : (own : ℕ) (act : Act) (r : Record) → Bool
+  broadcasts own (Broadcast payload) r = isEmpty r
+  broadcasts own (Receive signers payload) r = false
 
-  unfoldable pub announcingThis : List ℕ → ℕ → Act → Record → Bool
-  announcingThis payload own (announce first) r = announcing own (announce first) r && same first payload
-  announcingThis payload own (hand signers first) r = false
+  unfoldable pub broadcastsThis : (payload : List ℕ) (own : ℕ) (act : Act) (r : Record) → Bool
+  broadcastsThis payload own (Broadcast first) r = broadcasts own (Broadcast first) r && same first payload
+  broadcastsThis payload own (Receive signers first) r = false
 
-  -- a bundle with these signers and this payload is handed to it, taken or refused
-  unfoldable pub handed : ℕ → List ℕ → ℕ → Act → Record → Bool
-  handed signers payload own (announce first) r = false
-  handed signers payload own (hand given first) r = eqb given signers && same first payload
+  -- the node receives a bundle with these signers and this payload, whether it refuses it or not
+  unfoldable pub receives : (signers : ℕ) (payload : List ℕ) (own : ℕ) (act : Act) (r : Record) → Bool
+  receives signers payload own (Broadcast first) r = false
+  receives signers payload own (Receive given first) r = eqb given signers && same first payload
 
-  -- ---- and of a trace, which finds every record empty
+  -- ---- and on a trace, before which every record is empty
 
-  abbrev pub record-of : Trace Act → ℕ → Record
-  record-of = state (λ node. Empty) next
+  -- the record of a node after the acts
+  abbrev pub currentRecord : (list : Trace Act) (node : ℕ) → Record
+  currentRecord = trace.state (λ node. Empty) recordAfter
 
-  abbrev pub some : (ℕ → Act → Record → Bool) → Trace Act → ℕ → Bool
-  some = ever (λ node. Empty) next
+  abbrev pub ever : (test : (own : ℕ) (act : Act) (r : Record) → Bool) (list : Trace Act) (node : ℕ) → Bool
+  ever = trace.ever (λ node. Empty) recordAfter
 
-  abbrev pub number-of : (ℕ → Act → Record → Bool) → Trace Act → ℕ → ℕ
-  number-of = times (λ node. Empty) next
+  abbrev pub times : (test : (own : ℕ) (act : Act) (r : Record) → Bool) (list : Trace Act) (node : ℕ) → ℕ
+  times = trace.times (λ node. Empty) recordAfter
 
--- n nodes, of which those of the set are faulty
-abbrev pub correct : ℕ → NodeSet → NodeSet
+-- Of n nodes those of the set are faulty, and the others are correct.
+abbrev pub correct : (n : ℕ) (faulty : NodeSet) → NodeSet
 correct n faulty u = ltb u n && not (faulty u)
 
--- what the argument asks of the quorum, where at most t nodes are faulty and a sending may miss d correct nodes
+-- What the argument asks of the quorum, where at most t nodes are faulty and a sending may miss d correct nodes.
 pub record Quorum (n t d q : ℕ) : Type 0 where
   pub fits : n ≤ 64
   pub intersects : n + t < q + q
   pub reachable : q + t + d ≤ n
 
 module _ (n q sender : ℕ) (faulty : NodeSet) where
-  -- Acts are at correct nodes. The sender announces, and a bundle has the sender's signature, only known signers, and a correct node's
-  -- signature only if that node signed this payload earlier.
-  abbrev pub Allowed : Trace Act → ℕ → Act → Type 0
-  Allowed earlier u (announce payload) = u ≡ sender
-  Allowed earlier u (hand signers payload) =
+  -- Only the sender broadcasts. A bundle that is received has its sender's signature, no signer that is not a node, and a correct node's signature
+  -- only if that node signed this payload by an earlier act.
+  abbrev pub Allowed : (earlier : Trace Act) (u : ℕ) (act : Act) → Type 0
+  Allowed earlier u (Broadcast payload) = u ≡ sender
+  Allowed earlier u (Receive signers payload) =
       (within signers n ≡ true)
       × (member signers sender ≡ true)
-      × ((v : ℕ) → correct n faulty v ≡ true → member signers v ≡ true → some q (signing q payload) earlier v ≡ true)
+      × ((v : ℕ) → correct n faulty v ≡ true → member signers v ≡ true → ever q (signs q payload) earlier v ≡ true)
 
+  -- Every act is at a correct node, and is allowed.
   abbrev pub Lawful : Trace Act → Type 0
   Lawful start = Unit
   Lawful (earlier then u calls act) = Lawful earlier × (correct n faulty u ≡ true) × Allowed earlier u act
 
-  module _ (d : ℕ) (trace : Trace Act) where
-    -- at least c - d of the c correct nodes
-    abbrev pub NearlyAll : NodeSet → Type 0
+  module _ (d : ℕ) (list : Trace Act) where
+    -- what is assumed, where at most t nodes are faulty
+    pub record Assumed (t : ℕ) : Type 0 where
+      pub quorum : Quorum n t d q
+      pub few : count faulty n ≤ t
+      pub lawful : Lawful list
+
+    -- the set has at least c - d of the c correct nodes
+    abbrev pub NearlyAll : (p : NodeSet) → Type 0
     NearlyAll p = count (correct n faulty) n ≤ d + count (both (correct n faulty) p) n
 
-    -- every bundle sent by a correct node has been handed to at least c - d correct nodes
+    -- every bundle that a correct node sent was received by at least c - d correct nodes
     abbrev pub Reached : Type 0
     Reached =
-        (u signers : ℕ) (payload : List ℕ) → correct n faulty u ≡ true → some q (sendingThis q signers payload) trace u ≡ true
-        → NearlyAll (some q (handed q signers payload) trace)
+        (u signers : ℕ) (payload : List ℕ) → correct n faulty u ≡ true → ever q (sendsThis q signers payload) list u ≡ true
+        → NearlyAll (ever q (receives q signers payload) list)
 
     -- no two correct nodes deliver different payloads
     abbrev pub Agreement : Type 0
     Agreement =
         (u v : ℕ) (first second : List ℕ) → correct n faulty u ≡ true → correct n faulty v ≡ true
-        → some q (deliveringThis q first) trace u ≡ true → some q (deliveringThis q second) trace v ≡ true
+        → ever q (deliversThis q first) list u ≡ true → ever q (deliversThis q second) list v ≡ true
         → first ≡ second
 
-    -- a correct sender's slot yields its announcement alone
+    -- no node delivers twice
+    abbrev pub DeliversOnce : Type 0
+    DeliversOnce = (u : ℕ) → times q (delivers q) list u ≤ 1
+
+    -- what is delivered in a correct sender's slot is what the sender broadcast there
     abbrev pub Validity : Type 0
     Validity =
         (u : ℕ) (payload : List ℕ) → correct n faulty u ≡ true → correct n faulty sender ≡ true
-        → some q (deliveringThis q payload) trace u ≡ true
-        → some q (announcingThis q payload) trace sender ≡ true
+        → ever q (deliversThis q payload) list u ≡ true
+        → ever q (broadcastsThis q payload) list sender ≡ true
 
-    -- none delivers twice, each sends at most two bundles, and none announces twice
-    abbrev pub Once : Type 0
-    Once = (u : ℕ) → number-of q (delivering q) trace u ≤ 1
+    -- no node broadcasts twice
+    abbrev pub BroadcastsOnce : Type 0
+    BroadcastsOnce = (u : ℕ) → times q (broadcasts q) list u ≤ 1
 
-    abbrev pub Twice : Type 0
-    Twice = (u : ℕ) → number-of q (sending q) trace u ≤ 2
+    -- no node sends more than two bundles
+    abbrev pub SendsAtMostTwice : Type 0
+    SendsAtMostTwice = (u : ℕ) → times q (sends q) list u ≤ 2
 
-    abbrev pub Single : Type 0
-    Single = (u : ℕ) → number-of q (announcing q) trace u ≤ 1
-
-    -- each announcement, and each payload that some correct node delivered, is delivered by at least c - d correct nodes
+    -- what the correct sender broadcast, and what some correct node delivered, at least c - d correct nodes deliver
     abbrev pub Delivery : Type 0
     Delivery =
         (u : ℕ) (payload : List ℕ) → correct n faulty u ≡ true
-        → ((u ≡ sender) × (some q (announcingThis q payload) trace u ≡ true)) ⊎ (some q (deliveringThis q payload) trace u ≡ true)
-        → NearlyAll (some q (deliveringThis q payload) trace)
+        → ((u ≡ sender) × (ever q (broadcastsThis q payload) list u ≡ true)) ⊎ (ever q (deliversThis q payload) list u ≡ true)
+        → NearlyAll (ever q (deliversThis q payload) list)
 
--- the theorem on values
+    pub record Concluded : Type 0 where
+      pub agreement : Agreement
+      pub delivers-once : DeliversOnce
+      pub validity : Validity
+      pub broadcasts-once : BroadcastsOnce
+      pub sends-at-most-twice : SendsAtMostTwice
+      pub delivery : Reached → Delivery
+
+-- The theorem on values.
 abbrev pub OneSlotHolds : Type 0
 OneSlotHolds =
-    (n t d q sender : ℕ) (faulty : NodeSet) (trace : Trace Act)
-    → Quorum n t d q → count faulty n ≤ t → Lawful n q sender faulty trace
-    → Agreement n q sender faulty d trace
-    × Validity n q sender faulty d trace
-    × Once n q sender faulty d trace
-    × Twice n q sender faulty d trace
-    × Single n q sender faulty d trace
-    × (Reached n q sender faulty d trace → Delivery n q sender faulty d trace)
+    (n t d q sender : ℕ) (faulty : NodeSet) (list : Trace Act)
+    → Assumed n q sender faulty d list t → Concluded n q sender faulty d list

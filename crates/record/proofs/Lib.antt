@@ -1,5 +1,6 @@
 -- Laws of the record that belong to no one function.
 pub mod Words
-pub mod Updated
-pub mod Image
+pub mod WellFormed
+pub mod UpdateCases
+pub mod Encoding
 pub mod Unique

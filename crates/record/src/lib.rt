@@ -1,38 +1,40 @@
-// What a node keeps of a slot, as the 32 bytes of a record and as four words.
+// What a node keeps of a slot, as the 32 bytes of a record and as a value.
 //
-// A record is loaded by value, a bundle is taken on the value, and the result is stored again. Beside these
-// only showing looks at a record's bytes, and only at its payload.
+// A record is loaded by value, a bundle is received on the value, and the result is stored again. Beside
+// these only showing looks at a record's bytes, and only at its payload.
 use config::Config;
+use payload::Payload;
 use refusal::Refusal;
 ghost use mathlib.Core.Path.{_≡_};
-ghost use mathlib.Core.Bool.{_&&_, cond, false};
-ghost use mathlib.Core.List.{_++_};
+ghost use mathlib.Core.Bool.{cond, false};
 ghost use lib.Dec.{eqb};
 ghost use lib.ListN.{length};
-ghost use Rattle.octets.specs.Octets.{bytesOf, blank, same};
+ghost use Rattle.octets.specs.Octets.{blank, same};
+ghost use Rattle.payload.specs.Payload.{bytes as payloadBytes};
 ghost use Rattle.config.specs.Config.{quorum, recordSize};
-ghost use Rattle.protocol.specs.Slot.{update as updateOf, Empty, Held, isDelivered};
-ghost use Rattle.record.specs.Record.{bytes as bytesIn, loaded, wellFormed, recordIn, Stated, wellFormedBy, received, stepOf, imaged};
+ghost use Rattle.protocol.specs.Update.{update as updateOf, Empty, Held, Delivered as DeliveredOf, isDelivered};
+ghost use Rattle.record.specs.Record.{bytes as bytesIn, loaded, encoding, wellFormed, decoded, received, receivedOf, encodedUpdate};
+ghost use Rattle.record.specs.Inner.{HasState, wellFormedBy};
 
 // The first word of a record: its state in the highest byte, the others zero.
-pub const HELD: u64 = 0x100_0000_0000_0000;
+const HELD: u64 = 0x100_0000_0000_0000;
 
-pub const DELIVERED: u64 = 0x200_0000_0000_0000;
+const DELIVERED: u64 = 0x200_0000_0000_0000;
 
-// Where in a record its payload starts.
+// Where in a record its signers start, and its payload, with which it ends.
+const SIGNERS_AT: usize = 8;
+
 pub const PAYLOAD_AT: usize = 16;
 
 pub struct Record {
     // the state's byte and seven that are zero
     pub head: u64,
     pub signers: u64,
-    // the payload's two words
-    pub high: u64,
-    pub low: u64,
+    pub payload: Payload,
 }
 
 // What a bundle does to a record, and the record afterwards.
-pub enum Step {
+pub enum Received {
     Kept(Record),
     Signed(Record),
     Delivered(Record),
@@ -47,24 +49,39 @@ pub fn load(slice: &[u8]) -> Record
         return Record {
             head: 0,
             signers: 0,
-            high: 0,
-            low: 0,
+            payload: Payload { high: 0, low: 0 },
         };
     }
     Record {
-        head: octets::word(&slice[0..8]),
-        signers: octets::word(&slice[8..16]),
-        high: octets::word(&slice[16..24]),
-        low: octets::word(&slice[24..32]),
+        head: octets::word(&slice[0..SIGNERS_AT]),
+        signers: octets::word(&slice[SIGNERS_AT..PAYLOAD_AT]),
+        payload: payload::load(&slice[PAYLOAD_AT..PAYLOAD_AT + payload::SIZE]),
     }
 }
 
 impl Record {
+    // A record that holds a payload with these signers.
+    pub fn held(signers: u64, payload: Payload) -> Record
+        ensures { λ r. ⌜ bytesIn r ≡ encoding (Held signers (payloadBytes payload)) ⌝ }
+    {
+        Record {
+            head: HELD,
+            signers,
+            payload,
+        }
+    }
+
     // Writes the record over a slice of 32 bytes. A slice of another length stays as it is.
     pub fn store(self, slice: &mut [u8])
         ensures { λ _. ⌜ now (slice .exit) ≡ cond (eqb (length (now (slice .entry))) recordSize) (bytesIn self) (now (slice .entry)) ⌝ }
     {
-        octets::fill(slice, self.head, self.signers, self.high, self.low);
+        if slice.len() != config::RECORD_SIZE {
+            return;
+        }
+        octets::put(slice, 0, self.head);
+        octets::put(slice, SIGNERS_AT, self.signers);
+        octets::put(slice, PAYLOAD_AT, self.payload.high);
+        octets::put(slice, PAYLOAD_AT + 8, self.payload.low);
     }
 
     // Whether all 32 bytes are zero.
@@ -77,14 +94,14 @@ impl Record {
         if self.signers != 0 {
             return false;
         }
-        if self.high != 0 {
+        if self.payload.high != 0 {
             return false;
         }
-        self.low == 0
+        self.payload.low == 0
     }
 
-    // Whether the record is sound, as document 01 says, for a slot of the sender at this node. The calls
-    // refuse any other.
+    // Whether the record is well-formed, as document 01 says, for a slot of the sender at this node. The
+    // calls refuse any other.
     pub fn well_formed(self, config: Config, sender: u8) -> bool
         ensures { λ r. ⌜ r ≡ wellFormed config sender (bytesIn self) ⌝ }
     {
@@ -123,116 +140,97 @@ impl Record {
         false
     }
 
-    // Whether the slot is delivered, of a record that is sound.
+    // Whether the slot is delivered, of a record that is well-formed.
     pub fn is_delivered(self) -> bool
-        ensures { λ r. ⌜ r ≡ isDelivered (recordIn (bytesIn self)) ⌝ }
+        ensures { λ r. ⌜ r ≡ isDelivered (decoded (bytesIn self)) ⌝ }
     {
         1 < self.head / HELD
     }
 
-    // What a bundle with these signers and this payload, given as two words, does to the record of a slot of
-    // the sender.
-    pub fn receive(self, config: Config, sender: u8, signers: u64, high: u64, low: u64) -> Step
-        ensures { λ r. ⌜ stepOf r ≡ imaged (received config sender signers (bytesOf 8 high ++ bytesOf 8 low) (bytesIn self)) ⌝ }
+    // What a bundle with these signers and this payload does to the record of a slot of the sender.
+    pub fn receive(self, config: Config, sender: u8, signers: u64, payload: Payload) -> Received
+        ensures { λ r. ⌜ receivedOf r ≡ encodedUpdate (received config sender signers (payloadBytes payload) (bytesIn self)) ⌝ }
     {
         if !self.well_formed(config, sender) {
-            return Step::Refused(Refusal::MalformedRecord);
+            return Received::Refused(Refusal::MalformedRecord);
         }
-        self.update(config, signers, high, low)
+        // Named word by word, so that the compiler passes two numbers. Given the struct, it takes the
+        // record's words for the bundle's where they are equal, and then has to move them.
+        let payload = Payload {
+            high: payload.high,
+            low: payload.low,
+        };
+        self.update(config, signers, payload)
     }
 }
 
 impl Record {
-    // Whether the record's payload is this one.
-    fn holds(self, high: u64, low: u64) -> bool
-        ensures { λ r. ⌜ r ≡ (eqb (self .high) high && eqb (self .low) low) ⌝ }
+    // A record of a payload that these signers delivered.
+    fn delivered(signers: u64, payload: Payload) -> Record
+        ensures { λ r. ⌜ bytesIn r ≡ encoding (DeliveredOf signers (payloadBytes payload)) ⌝ }
     {
-        if self.high != high {
-            return false;
+        Record {
+            head: DELIVERED,
+            signers,
+            payload,
         }
-        self.low == low
     }
 
-    // What a bundle does to a record that is sound. Its first word is tested as it is there, so that the
-    // compiler tests it once.
-    fn update(self, config: Config, signers: u64, high: u64, low: u64) -> Step
-        requires { ⌜ Stated self ⌝ }
-        ensures { λ r. ⌜ stepOf r ≡ imaged (updateOf (config .own) (quorum config) signers (bytesOf 8 high ++ bytesOf 8 low) (recordIn (bytesIn self))) ⌝ }
+    // What a bundle does to a record that is well-formed. Its first word is tested by the same equalities
+    // as in `well_formed_by`, so that the compiler tests it once.
+    fn update(self, config: Config, signers: u64, payload: Payload) -> Received
+        requires { ⌜ HasState self ⌝ }
+        ensures { λ r. ⌜ receivedOf r ≡ encodedUpdate (updateOf (config .own) (quorum config) signers (payloadBytes payload) (decoded (bytesIn self))) ⌝ }
     {
         let state = self.head;
         if state == DELIVERED {
-            return Step::Refused(Refusal::AlreadyDelivered);
+            return Received::Refused(Refusal::AlreadyDelivered);
         }
         if state == 0 {
-            return sign(config, signers, high, low);
+            return sign(config, signers, payload);
         }
-        if self.holds(high, low) {
-            return join(config, self.signers, signers, high, low);
+        if payload.equals(self.payload) {
+            return join(config, self.signers, signers, payload);
         }
-        replace(config, self, signers, high, low)
+        replace(config, self, signers, payload)
     }
 }
 
 // A bundle on an empty record: we sign.
-fn sign(config: Config, signers: u64, high: u64, low: u64) -> Step
-    ensures { λ r. ⌜ stepOf r ≡ imaged (updateOf (config .own) (quorum config) signers (bytesOf 8 high ++ bytesOf 8 low) Empty) ⌝ }
+fn sign(config: Config, signers: u64, payload: Payload) -> Received
+    ensures { λ r. ⌜ receivedOf r ≡ encodedUpdate (updateOf (config .own) (quorum config) signers (payloadBytes payload) Empty) ⌝ }
 {
     if signers::member(signers, config.own) {
-        return Step::Refused(Refusal::OwnSignatureUnknown);
+        return Received::Refused(Refusal::OwnSignatureUnknown);
     }
     let signers = signers::insert(signers, config.own);
     if config.quorum() <= signers::size(signers) {
-        return Step::Delivered(Record {
-            head: DELIVERED,
-            signers,
-            high,
-            low,
-        });
+        return Received::Delivered(Record::delivered(signers, payload));
     }
-    Step::Signed(Record {
-        head: HELD,
-        signers,
-        high,
-        low,
-    })
+    Received::Signed(Record::held(signers, payload))
 }
 
 // A bundle with the payload that is held, and so far signed by `known`: the signers join.
-fn join(config: Config, known: u64, signers: u64, high: u64, low: u64) -> Step
-    ensures { λ r. ⌜ stepOf r ≡ imaged (updateOf (config .own) (quorum config) signers (bytesOf 8 high ++ bytesOf 8 low) (Held known (bytesOf 8 high ++ bytesOf 8 low))) ⌝ }
+fn join(config: Config, known: u64, signers: u64, payload: Payload) -> Received
+    ensures { λ r. ⌜ receivedOf r ≡ encodedUpdate (updateOf (config .own) (quorum config) signers (payloadBytes payload) (Held known (payloadBytes payload))) ⌝ }
 {
     let signers = signers::union(known, signers);
     if config.quorum() <= signers::size(signers) {
-        return Step::Delivered(Record {
-            head: DELIVERED,
-            signers,
-            high,
-            low,
-        });
+        return Received::Delivered(Record::delivered(signers, payload));
     }
-    Step::Kept(Record {
-        head: HELD,
-        signers,
-        high,
-        low,
-    })
+    Received::Kept(Record::held(signers, payload))
 }
 
 // A bundle with another payload than the one held: only a full quorum replaces it.
-fn replace(config: Config, held: Record, signers: u64, high: u64, low: u64) -> Step
-    requires { ⌜ same (bytesOf 8 (held .high) ++ bytesOf 8 (held .low)) (bytesOf 8 high ++ bytesOf 8 low) ≡ false ⌝ }
-    ensures { λ r. ⌜ stepOf r ≡ imaged (updateOf (config .own) (quorum config) signers (bytesOf 8 high ++ bytesOf 8 low) (Held (held .signers) (bytesOf 8 (held .high) ++ bytesOf 8 (held .low)))) ⌝ }
+fn replace(config: Config, held: Record, signers: u64, payload: Payload) -> Received
+    requires { ⌜ same (payloadBytes (held .payload)) (payloadBytes payload) ≡ false ⌝ }
+    ensures { λ r. ⌜ receivedOf r ≡ encodedUpdate (updateOf (config .own) (quorum config) signers (payloadBytes payload) (Held (held .signers) (payloadBytes (held .payload)))) ⌝ }
 {
     if signers::member(signers, config.own) {
-        return Step::Refused(Refusal::OwnSignatureUnknown);
+        return Received::Refused(Refusal::OwnSignatureUnknown);
     }
     if signers::size(signers) < config.quorum() {
-        return Step::Refused(Refusal::OtherPayload);
+        return Received::Refused(Refusal::OtherPayload);
     }
-    Step::Delivered(Record {
-        head: DELIVERED,
-        signers,
-        high,
-        low,
-    })
+    Received::Delivered(Record::delivered(signers, payload))
 }

@@ -1,6 +1,8 @@
 -- Laws of this crate that belong to no one function.
-pub mod Lengths
-pub mod Nodes
-pub mod Places
-pub mod Rows
-pub mod Tables
+pub mod Choices
+pub mod TableFields
+pub mod RowFields
+pub mod RowParts
+pub mod LineLengths
+pub mod StepRows
+pub mod RowNodes

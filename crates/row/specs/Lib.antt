@@ -1,3 +1,3 @@
 -- What the contracts of this crate and of those above it cite.
 pub mod Row
-pub mod Tails
+pub mod RowParts

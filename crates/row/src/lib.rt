@@ -2,31 +2,47 @@
 //
 // Every function is defined for all bytes and lengths. What is not of the format has a case of its own in
 // the answer.
-use bundle::Header;
 use config::Config;
+use payload::Payload;
 use text::Number;
 use text::Word;
 ghost use mathlib.Core.Path.{_≡_};
+ghost use mathlib.Core.Bool.{cond};
+ghost use lib.ListN.{drop};
 ghost use Rattle.octets.specs.Octets.{same};
-ghost use Rattle.row.specs.Row.{tableNames, stepNames, tableIn, rowIn};
-ghost use Rattle.row.specs.Tails.{nodeTail, broadcastTail, receiveTail};
+ghost use Rattle.text.specs.Text.{afterFields};
+ghost use Rattle.row.specs.Row.{tableNames, stepNames, tableIn, rowIn, broadcastFields, broadcastRow, receiveFields, receiveRow};
+ghost use Rattle.row.specs.RowParts.{nodeIn, hexPayloadIn};
 
-// What happens at a node: document 01's acts A and B. A payload is two words, high byte first.
+// What happens at a node: document 01's acts A and B.
 pub enum Step {
-    Broadcast { high: u64, low: u64 },
-    Receive { header: Header, high: u64, low: u64 },
+    Broadcast {
+        payload: Payload,
+    },
+    Receive {
+        sender: u8,
+        seq: u8,
+        signers: u64,
+        payload: Payload,
+    },
 }
 
 // A step row.
-pub enum Row {
+pub enum StepRow {
     Unread,
     At { node: u8, step: Step },
 }
 
-// The table row, with own number 0.
-pub enum Table {
+// The table row: the configuration that it gives, with own number 0.
+pub enum ConfigRow {
     Good(Config),
     Bad,
+}
+
+// 32 hexadecimal digits.
+enum HexPayload {
+    Hex(Payload),
+    NotHex,
 }
 
 // Whether the line has the names of the table.
@@ -43,38 +59,24 @@ pub fn is_step_names(line: &[u8]) -> bool
     text::same(line, b"act unit sender number signers body")
 }
 
-// The table that a line gives, if it is one.
-pub fn read_table(line: &[u8]) -> Table
+// The configuration that a table row gives, if it is one.
+pub fn read_table(line: &[u8]) -> ConfigRow
     ensures { λ r. ⌜ r ≡ tableIn (now (line .entry)) ⌝ }
 {
-    let nodes = text::plain(255, line);
-    let Number::Plain(n, a) = nodes else {
-        return Table::Bad;
+    let Number::Plain(n, faults_at) = text::number_at(255, line, 0) else {
+        return ConfigRow::Bad;
     };
-    if a == line.len() {
-        return Table::Bad;
-    }
-    let faults = text::plain(255, &line[a + 1..]);
-    let Number::Plain(t, b) = faults else {
-        return Table::Bad;
+    let Number::Plain(t, losses_at) = text::number_at(255, line, faults_at) else {
+        return ConfigRow::Bad;
     };
-    if a + 1 + b == line.len() {
-        return Table::Bad;
-    }
-    let losses = text::plain(255, &line[a + b + 2..]);
-    let Number::Plain(d, c) = losses else {
-        return Table::Bad;
+    let Number::Plain(d, day_at) = text::number_at(255, line, losses_at) else {
+        return ConfigRow::Bad;
     };
-    if a + b + 2 + c == line.len() {
-        return Table::Bad;
-    }
-    let day_start = a + b + c + 3;
-    let days = text::plain(0xffff_ffff, &line[day_start..]);
-    let Number::Plain(day, e) = days else {
-        return Table::Bad;
+    let Number::Plain(day, end) = text::number_at(0xffff_ffff, line, day_at) else {
+        return ConfigRow::Bad;
     };
-    if day_start + e != line.len() {
-        return Table::Bad;
+    if end != line.len() + 1 {
+        return ConfigRow::Bad;
     }
     let config = Config {
         n: n as u8,
@@ -84,127 +86,120 @@ pub fn read_table(line: &[u8]) -> Table
         day,
     };
     if !config.good() {
-        return Table::Bad;
+        return ConfigRow::Bad;
     }
-    Table::Good(config)
+    ConfigRow::Good(config)
 }
 
-// The step that a row gives in a system of n nodes. The act is looked at first: behind tests of the other
-// fields the compiler takes the steps for rare, and hands them on by way of memory.
-pub fn read_row(n: u8, line: &[u8]) -> Row
+// The step that a row gives in a system of n nodes. The act is looked at first: after tests of the other
+// fields the compiler takes the steps for rare, and passes them on by way of memory.
+pub fn read_row(n: u8, line: &[u8]) -> StepRow
     ensures { λ r. ⌜ r ≡ rowIn n (now (line .entry)) ⌝ }
 {
     if line.len() < 2 {
-        return Row::Unread;
+        return StepRow::Unread;
     }
     if line[1] != b' ' {
-        return Row::Unread;
+        return StepRow::Unread;
     }
     let act = line[0];
     if act == b'B' {
-        return receive_at(n, &line[2..]);
+        return receive(n, line);
     }
     if act == b'A' {
-        return broadcast_at(n, &line[2..]);
+        return broadcast(n, line);
     }
-    Row::Unread
+    StepRow::Unread
 }
 
-// A broadcast, from what stands behind its act.
-fn broadcast_at(n: u8, rest: &[u8]) -> Row
-    ensures { λ r. ⌜ r ≡ nodeTail broadcastTail n (now (rest .entry)) ⌝ }
+// A row of act A, from the fields after its act: the node, three dashes and the payload.
+fn broadcast(n: u8, line: &[u8]) -> StepRow
+    requires { ⌜ afterFields 1 (now line) ≡ drop 2 (now line) ⌝ }
+    ensures { λ r. ⌜ r ≡ cond (broadcastFields n (now (line .entry))) (broadcastRow (now (line .entry))) StepRow.Unread ⌝ }
 {
-    let nodes = text::plain(255, rest);
-    let Number::Plain(node, k) = nodes else {
-        return Row::Unread;
+    let Number::Plain(node, at) = read_node(n, line) else {
+        return StepRow::Unread;
     };
-    if (n as u32) <= node {
-        return Row::Unread;
+    if line.len() < at + 6 {
+        return StepRow::Unread;
     }
-    if rest.len() == k {
-        return Row::Unread;
+    if !text::same(&line[at..at + 6], b"- - - ") {
+        return StepRow::Unread;
     }
-    broadcast(node as u8, &rest[k + 1..])
+    let HexPayload::Hex(payload) = read_payload(&line[at + 6..]) else {
+        return StepRow::Unread;
+    };
+    let step = Step::Broadcast { payload };
+    StepRow::At {
+        node: node as u8,
+        step,
+    }
 }
 
-// A bundle handed to a node, from what stands behind its act.
-fn receive_at(n: u8, rest: &[u8]) -> Row
-    ensures { λ r. ⌜ r ≡ nodeTail receiveTail n (now (rest .entry)) ⌝ }
+// A row of act B, from the fields after its act: the node, sender, seq, signers and payload.
+fn receive(n: u8, line: &[u8]) -> StepRow
+    requires { ⌜ afterFields 1 (now line) ≡ drop 2 (now line) ⌝ }
+    ensures { λ r. ⌜ r ≡ cond (receiveFields n (now (line .entry))) (receiveRow (now (line .entry))) StepRow.Unread ⌝ }
 {
-    let nodes = text::plain(255, rest);
-    let Number::Plain(node, k) = nodes else {
-        return Row::Unread;
+    let Number::Plain(node, sender_at) = read_node(n, line) else {
+        return StepRow::Unread;
     };
-    if (n as u32) <= node {
-        return Row::Unread;
+    let Number::Plain(sender, seq_at) = text::number_at(255, line, sender_at) else {
+        return StepRow::Unread;
+    };
+    let Number::Plain(seq, at) = text::number_at(255, line, seq_at) else {
+        return StepRow::Unread;
+    };
+    if line.len() < at + 17 {
+        return StepRow::Unread;
     }
-    if rest.len() == k {
-        return Row::Unread;
+    if line[at + 16] != b' ' {
+        return StepRow::Unread;
     }
-    receive(node as u8, &rest[k + 1..])
-}
-
-// A broadcast, from what stands behind its node: three dashes and the payload.
-fn broadcast(node: u8, tail: &[u8]) -> Row
-    ensures { λ r. ⌜ r ≡ broadcastTail node (now (tail .entry)) ⌝ }
-{
-    if tail.len() != 38 {
-        return Row::Unread;
-    }
-    if !text::same(&tail[0..6], b"- - - ") {
-        return Row::Unread;
-    }
-    let first = text::hex(&tail[6..22]);
-    let Word::Hex(high) = first else {
-        return Row::Unread;
+    let Word::Hex(signers) = text::hex(&line[at..at + 16]) else {
+        return StepRow::Unread;
     };
-    let second = text::hex(&tail[22..38]);
-    let Word::Hex(low) = second else {
-        return Row::Unread;
+    let HexPayload::Hex(payload) = read_payload(&line[at + 17..]) else {
+        return StepRow::Unread;
     };
-    let step = Step::Broadcast { high, low };
-    Row::At { node, step }
-}
-
-// A bundle handed to a node, from what stands behind the node: sender, number, signers and payload.
-fn receive(node: u8, tail: &[u8]) -> Row
-    ensures { λ r. ⌜ r ≡ receiveTail node (now (tail .entry)) ⌝ }
-{
-    let senders = text::plain(255, tail);
-    let Number::Plain(sender, a) = senders else {
-        return Row::Unread;
-    };
-    if a == tail.len() {
-        return Row::Unread;
-    }
-    let numbers = text::plain(255, &tail[a + 1..]);
-    let Number::Plain(seq, b) = numbers else {
-        return Row::Unread;
-    };
-    let at = a + b + 2;
-    if tail.len() != at + 49 {
-        return Row::Unread;
-    }
-    if tail[at + 16] != b' ' {
-        return Row::Unread;
-    }
-    let words = text::hex(&tail[at..at + 16]);
-    let Word::Hex(signers) = words else {
-        return Row::Unread;
-    };
-    let first = text::hex(&tail[at + 17..at + 33]);
-    let Word::Hex(high) = first else {
-        return Row::Unread;
-    };
-    let second = text::hex(&tail[at + 33..at + 49]);
-    let Word::Hex(low) = second else {
-        return Row::Unread;
-    };
-    let header = Header {
+    let step = Step::Receive {
         sender: sender as u8,
         seq: seq as u8,
         signers,
+        payload,
     };
-    let step = Step::Receive { header, high, low };
-    Row::At { node, step }
+    StepRow::At {
+        node: node as u8,
+        step,
+    }
+}
+
+// The node of a row whose act is one letter, if it is one of n nodes.
+fn read_node(n: u8, line: &[u8]) -> Number
+    requires { ⌜ afterFields 1 (now line) ≡ drop 2 (now line) ⌝ }
+    ensures { λ r. ⌜ r ≡ nodeIn n (now (line .entry)) ⌝ }
+{
+    let Number::Plain(node, next) = text::number_at(255, line, 2) else {
+        return Number::NotPlain;
+    };
+    if (n as u32) <= node {
+        return Number::NotPlain;
+    }
+    Number::Plain(node, next)
+}
+
+// The payload that 32 digits write.
+fn read_payload(digits: &[u8]) -> HexPayload
+    ensures { λ r. ⌜ r ≡ hexPayloadIn (now (digits .entry)) ⌝ }
+{
+    if digits.len() != 32 {
+        return HexPayload::NotHex;
+    }
+    let Word::Hex(high) = text::hex(&digits[0..16]) else {
+        return HexPayload::NotHex;
+    };
+    let Word::Hex(low) = text::hex(&digits[16..]) else {
+        return HexPayload::NotHex;
+    };
+    HexPayload::Hex(Payload { high, low })
 }

@@ -1,5 +1,3 @@
--- What the contracts of this crate and of those above it cite.
+-- What the contracts of this crate cite.
 pub mod Run
 pub mod Stream
-pub mod Inner
-pub mod Calls

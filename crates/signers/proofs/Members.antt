@@ -12,29 +12,29 @@ use lib.Bits.{bitAnd, bitOr, or-shr, or-mod, or-lt, and-shr, and-mod, and-lt, an
 use lib.Count.{ones-step, ones-le, leading-top}
 use lib.Dec.{ltb, leb, eqb, leb·suc-suc, eqb·suc-suc, eqb·zero-suc, eqb·suc-zero, lit<}
 use lib.Pow.{pow-pos, pow-mono, pow-lt, shr-shr, shl-exact, ones-split, ones-lt, high, le-ones, lt-of-le-ones}
-use Rattle.signers.specs.Sets.{NodeSet, one, count, both, either}
+use Rattle.signers.specs.Sets.{NodeSet, indicator, count, both, either}
 use Rattle.signers.specs.Signers.{member, insert, union, size, meets, below, within}
 use Rattle.signers.proofs.Counting.{count-same, count-mono, count-none, count-single, count-some, count-first, count-either, quorums-share-correct}
 
 -- ---- the bits of a word
 
 -- a test as a bit, and a bit as a test
-eqb-one : (p : Bool) → eqb (one p) 1 ≡ p
-eqb-one true = refl
-eqb-one false = refl
+eqb-indicator : (p : Bool) → eqb (indicator p) 1 ≡ p
+eqb-indicator true = refl
+eqb-indicator false = refl
 
-one-eqb : (x : ℕ) → x < 2 → x ≡ one (eqb x 1)
-one-eqb zero h = refl
-one-eqb (suc zero) h = refl
-one-eqb (suc (suc x)) h = absurd (omega arith)
+indicator-eqb : (x : ℕ) → x < 2 → x ≡ indicator (eqb x 1)
+indicator-eqb zero h = refl
+indicator-eqb (suc zero) h = refl
+indicator-eqb (suc (suc x)) h = absurd (omega arith)
 
 -- bit u is 1 for a member and 0 for any other node
-pub bit-member : (a u : ℕ) → a / 2 ^ u % 2 ≡ one (member a u)
+pub bit-member : (a u : ℕ) → a / 2 ^ u % 2 ≡ indicator (member a u)
 unfolding member
-bit-member a u = one-eqb (a / 2 ^ u % 2) (mod-lt (a / 2 ^ u) (zero-lt-suc 1))
+bit-member a u = indicator-eqb (a / 2 ^ u % 2) (mod-lt (a / 2 ^ u) (zero-lt-suc 1))
 
 -- the lowest bit stands for node 0
-pub lowest-member : (a : ℕ) → a % 2 ≡ one (member a 0)
+pub lowest-member : (a : ℕ) → a % 2 ≡ indicator (member a 0)
 lowest-member a = ap (λ (x : ℕ). x % 2) (sym (div-one a)) ∙ bit-member a 0
 
 -- the other bits stand for the nodes that follow
@@ -54,7 +54,7 @@ same-members a b (suc n) ha hb h =
     let ha′ : a / 2 < 2 ^ n = omega (arith, pow-suc 2 n) in
     let hb′ : b / 2 < 2 ^ n = omega (arith, pow-suc 2 n) in
     let halves = same-members (a / 2) (b / 2) n ha′ hb′ (λ u l. member-half a u ∙ h (suc u) (suc-le-suc l) ∙ sym (member-half b u)) in
-    omega (arith, lowest-member a, lowest-member b, ap one (h 0 (zero-lt-suc n)))
+    omega (arith, lowest-member a, lowest-member b, ap indicator (h 0 (zero-lt-suc n)))
 
 -- n ones stand for the nodes 0 to n - 1
 pub member-ones : (n u : ℕ) → member (2 ^ n - 1) u ≡ ltb u n
@@ -73,20 +73,20 @@ member-ones (suc n) (suc u) =
 module _ (op : ℕ → ℕ → ℕ) (f : Bool → Bool → Bool)
     (shifted : (a b k : ℕ) → op a b / 2 ^ k ≡ op (a / 2 ^ k) (b / 2 ^ k))
     (masked : (a b k : ℕ) → op a b % 2 ^ k ≡ op (a % 2 ^ k) (b % 2 ^ k))
-    (digit : (p q : Bool) → op (one p) (one q) ≡ one (f p q)) where
+    (digit : (p q : Bool) → op (indicator p) (indicator q) ≡ indicator (f p q)) where
   member-op : (a b u : ℕ) → member (op a b) u ≡ f (member a u) (member b u)
   unfolding member
   member-op a b u =
       let bits = masked (a / 2 ^ u) (b / 2 ^ u) 1 ∙ ap₂ op (bit-member a u) (bit-member b u) ∙ digit (member a u) (member b u) in
-      rw (shifted a b u, bits, eqb-one)
+      rw (shifted a b u, bits, eqb-indicator)
 
 -- the operations on one bit
-or-digit : (p q : Bool) → bitOr (one p) (one q) ≡ one (p || q)
+or-digit : (p q : Bool) → bitOr (indicator p) (indicator q) ≡ indicator (p || q)
 or-digit true true = refl
 or-digit true false = refl
 or-digit false q = refl
 
-and-digit : (p q : Bool) → bitAnd (one p) (one q) ≡ one (p && q)
+and-digit : (p q : Bool) → bitAnd (indicator p) (indicator q) ≡ indicator (p && q)
 and-digit true true = refl
 and-digit true false = refl
 and-digit false q = refl

@@ -6,15 +6,15 @@ use Prim.Native.Nat.{ℕ, zero, suc, _+_}
 abbrev pub NodeSet : Type 0
 NodeSet = ℕ → Bool
 
--- 1 for a node that is counted, 0 for one that is not
-abbrev pub one : Bool → ℕ
-one true = 1
-one false = 0
+-- 1 for a node that counts, 0 for one that does not
+abbrev pub indicator : Bool → ℕ
+indicator true = 1
+indicator false = 0
 
 -- how many of the nodes 0 to n - 1 are in the set
 unfoldable pub count : NodeSet → ℕ → ℕ
 count p zero = 0
-count p (suc n) = one (p n) + count p n
+count p (suc n) = indicator (p n) + count p n
 
 -- the nodes that are in both sets; in at least one of them
 abbrev pub both : NodeSet → NodeSet → NodeSet

@@ -7,20 +7,19 @@ use Prim.Native.Nat.{ℕ, _+_, _≤_}
 use native.Mathlib.Omega.{arith}
 use lib.ListN.{length, length-append}
 use Rattle.refusal.specs.Outcome.{Outcome, refused, done, _and-then_}
+use Rattle.payload.specs.Payload.{bytes}
 use Rattle.config.specs.declared.Config.{Config}
-use Rattle.bundle.specs.Bundle.{bundleOf}
-use Rattle.protocol.specs.Slot as slot
-use Rattle.protocol.specs.Slot.{announced, kept, signed, delivered}
-use Rattle.calls.proofs.Kept.{broadcast-length, receive-length}
+use Rattle.protocol.specs.Update as protocol
+use Rattle.protocol.specs.Update.{announced, kept, signed, delivered}
+use Rattle.calls.proofs.Preserved.{broadcast-length, receive-length}
 use Rattle.text.specs.Text.{ascii, decimal, written}
-use Rattle.text.proofs.Spelled.{decimal-short}
+use Rattle.text.proofs.DecimalDigits.{decimal-short}
 use Rattle.row.specs.declared.Step.{Step}
 use Rattle.row.specs.declared.Step.the-variants as step
-use Rattle.row.specs.Row.{payloadOf}
 use Rattle.step.specs.declared.Answer.{Answer}
 use Rattle.step.specs.declared.Answer.the-variants as answer
-use Rattle.step.specs.Step.{lent, answerOf, recordsBy, Answers, answered, actOf, actBy, answerText, wordOf, stepText, unreadText, rowSpace}
-use Rattle.text.proofs.Wrote.{Puts, room-left, _then_}
+use Rattle.step.specs.Step.{stepBundle, answerOf, recordsBy, Answers, answered, actOf, actBy, answerText, answerWord, stepText, unreadText, rowSpace, blankOut}
+use Rattle.text.proofs.WrittenTexts.{Puts, room-left, _then_}
 
 -- ---- what an answer says
 
@@ -28,26 +27,26 @@ module _ (w : Config) where
   -- it is what the step's call gives,
   pub answers-says : (s : Step) (records : List ℕ) (r : Answer) → Answers w s records r → answered r ≡ answerOf w s records
   unfolding answerOf
-  answers-says (step.Broadcast high low) records (answer.Broadcast announcement) e =
+  answers-says (step.Broadcast payload) records (answer.Broadcast announcement) e =
       ap (λ (o : Outcome ℕ). o and-then λ seq. done (announced, 1)) e
-  answers-says (step.Broadcast high low) records (answer.Receive receipt) e = absurd e
-  answers-says (step.Receive header high low) records (answer.Broadcast announcement) e = absurd e
-  answers-says (step.Receive header high low) records (answer.Receive receipt) e = e
+  answers-says (step.Broadcast payload) records (answer.Receive receipt) e = absurd e
+  answers-says (step.Receive sender seq signers payload) records (answer.Broadcast announcement) e = absurd e
+  answers-says (step.Receive sender seq signers payload) records (answer.Receive receipt) e = e
 
   -- and has its act
   pub answers-act : (s : Step) (records : List ℕ) (r : Answer) → Answers w s records r → actBy r ≡ actOf s
-  answers-act (step.Broadcast high low) records (answer.Broadcast announcement) e = refl
-  answers-act (step.Broadcast high low) records (answer.Receive receipt) e = absurd e
-  answers-act (step.Receive header high low) records (answer.Broadcast announcement) e = absurd e
-  answers-act (step.Receive header high low) records (answer.Receive receipt) e = refl
+  answers-act (step.Broadcast payload) records (answer.Broadcast announcement) e = refl
+  answers-act (step.Broadcast payload) records (answer.Receive receipt) e = absurd e
+  answers-act (step.Receive sender seq signers payload) records (answer.Broadcast announcement) e = absurd e
+  answers-act (step.Receive sender seq signers payload) records (answer.Receive receipt) e = refl
 
 -- ---- how long a row is
 
 -- an act, of a step and of an answer,
 pub act-length : (s : Step) → length (actOf s) ≡ 3
 unfolding ascii
-act-length (step.Broadcast high low) = refl
-act-length (step.Receive header high low) = refl
+act-length (step.Broadcast payload) = refl
+act-length (step.Receive sender seq signers payload) = refl
 
 pub act-by-length : (r : Answer) → length (actBy r) ≡ 3
 unfolding ascii
@@ -59,55 +58,55 @@ pub count-length : (n : ℕ) → length (decimal n ++ ascii "\n") ≤ 21
 unfolding ascii
 count-length n = omega (arith, decimal-short n, length-append (decimal n) (ascii "\n"))
 
-word-length : (a : slot.Answer) → length (wordOf a) ≤ 9
+word-length : (a : protocol.Answer) → length (answerWord a) ≤ 9
 unfolding ascii
 word-length announced = omega arith
 word-length kept = omega arith
 word-length signed = omega arith
 word-length delivered = omega arith
 
--- what stands behind the node,
-answer-length : (o : Outcome (slot.Answer × ℕ)) → length (ascii " " ++ answerText o) ≤ 34
+-- what stands after the node,
+answer-length : (o : Outcome (protocol.Answer × ℕ)) → length (ascii " " ++ answerText o) ≤ 34
 unfolding ascii
 answer-length (refused number) = omega (arith, decimal-short number, length-append (decimal number) (ascii " 0\n"))
 answer-length (done reply) =
     omega
-    (arith, word-length (reply .0), count-length (reply .1), length-append (wordOf (reply .0)) (ascii " 0 " ++ (decimal (reply .1) ++ ascii "\n")))
+    (arith, word-length (reply .0), count-length (reply .1), length-append (answerWord (reply .0)) (ascii " 0 " ++ (decimal (reply .1) ++ ascii "\n")))
 
 -- so it is written where there is room for any,
-pub answer-wrote : (o : Outcome (slot.Answer × ℕ)) {at : ℕ} {out : List ℕ} {stop : ℕ} {after : List ℕ} → Puts at (ascii " " ++ answerText o) out stop after
+pub answer-wrote : (o : Outcome (protocol.Answer × ℕ)) {at : ℕ} {out : List ℕ} {stop : ℕ} {after : List ℕ} → Puts at (ascii " " ++ answerText o) out stop after
     → at + 34 ≤ length out → (stop ≡ at + length (ascii " " ++ answerText o)) × (after ≡ written at (ascii " " ++ answerText o) out)
 answer-wrote o p room = p .wrote (omega (arith, answer-length o))
 
-module _ (place node : ℕ) (act : List ℕ) (three : length act ≡ 3) where
+module _ (ordinal node : ℕ) (act : List ℕ) (three : length act ≡ 3) where
   -- what stands before that,
-  front-length : length (decimal place ++ (act ++ decimal node)) ≤ 43
+  front-length : length (decimal ordinal ++ (act ++ decimal node)) ≤ 43
   front-length =
-      omega (arith, three, decimal-short place, decimal-short node, length-append (decimal place) (act ++ decimal node), length-append act (decimal node))
+      omega (arith, three, decimal-short ordinal, decimal-short node, length-append (decimal ordinal) (act ++ decimal node), length-append act (decimal node))
 
-  -- so there is room for an answer behind it,
+  -- so there is room for an answer after it,
   pub front-room : {at : ℕ} {out : List ℕ} {s₁ : ℕ} {o₁ : List ℕ} {s₂ : ℕ} {o₂ : List ℕ} {s₃ : ℕ} {o₃ : List ℕ}
-      → Puts at (decimal place) out s₁ o₁ → Puts s₁ act o₁ s₂ o₂ → Puts s₂ (decimal node) o₂ s₃ o₃ → at + rowSpace ≤ length out → s₃ + 34 ≤ length o₃
+      → Puts at (decimal ordinal) out s₁ o₁ → Puts s₁ act o₁ s₂ o₂ → Puts s₂ (decimal node) o₂ s₃ o₃ → at + rowSpace ≤ length out → s₃ + 34 ≤ length o₃
   front-room first second third room = room-left 34 (first then second then third) (omega (arith, front-length))
 
   -- and the whole row, of a step that is read
-  pub step-length : (reply : Outcome (slot.Answer × ℕ)) → length (stepText place node act reply) ≤ rowSpace
+  pub step-length : (reply : Outcome (protocol.Answer × ℕ)) → length (stepText ordinal node act reply) ≤ rowSpace
   unfolding stepText
   step-length reply =
       let rest : List ℕ = ascii " " ++ answerText reply in
-      let whole : (decimal place ++ (act ++ decimal node)) ++ rest ≡ decimal place ++ (act ++ (decimal node ++ rest)) =
-      append-assoc (decimal place) (act ++ decimal node) rest ∙ ap (λ (r : List ℕ). decimal place ++ r) (append-assoc act (decimal node) rest) in
-      omega (arith, front-length, answer-length reply, length-append (decimal place ++ (act ++ decimal node)) rest, ap length whole)
+      let whole : (decimal ordinal ++ (act ++ decimal node)) ++ rest ≡ decimal ordinal ++ (act ++ (decimal node ++ rest)) =
+      append-assoc (decimal ordinal) (act ++ decimal node) rest ∙ ap (λ (r : List ℕ). decimal ordinal ++ r) (append-assoc act (decimal node) rest) in
+      omega (arith, front-length, answer-length reply, length-append (decimal ordinal ++ (act ++ decimal node)) rest, ap length whole)
 
 -- and of one that is not
-pub unread-length : (place : ℕ) → length (unreadText place) ≤ rowSpace
+pub unread-length : (ordinal : ℕ) → length (unreadText ordinal) ≤ rowSpace
 unfolding unreadText ascii
-unread-length place = omega (arith, decimal-short place, length-append (decimal place) (ascii " - - unread 0 0\n"))
+unread-length ordinal = omega (arith, decimal-short ordinal, length-append (decimal ordinal) (ascii " - - unread 0 0\n"))
 
 -- ---- the records
 
 -- a step leaves them their length
 pub records-length : (w : Config) (s : Step) (records : List ℕ) → length (recordsBy w s records) ≡ length records
 unfolding recordsBy
-records-length w (step.Broadcast high low) records = broadcast-length w (payloadOf high low) records lent
-records-length w (step.Receive header high low) records = receive-length w (bundleOf (w .day) header (payloadOf high low)) records lent
+records-length w (step.Broadcast payload) records = broadcast-length w (bytes payload) records blankOut
+records-length w (step.Receive sender seq signers payload) records = receive-length w (stepBundle w sender seq signers payload) records blankOut

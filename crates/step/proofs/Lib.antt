@@ -1,4 +1,3 @@
 -- Laws of this crate that belong to no one function.
-pub mod Wrote
+pub mod PrintedRows
 pub mod Answers
-pub mod Played

@@ -13,7 +13,7 @@ ghost use Rattle.refusal.specs.Outcome.{refused as refusedFor};
 ghost use Rattle.refusal.specs.Refusal.{numberOf};
 ghost use Rattle.calls.specs.Receive.{receiptOf};
 ghost use Rattle.text.specs.Text.{ascii, decimal, written};
-ghost use Rattle.step.specs.Step.{atNode, AnswersOver, recordsOver, outOver, Answers, recordsBy, answered, actBy, answerText, stepText, unreadText, printedOver, printedEnd};
+ghost use Rattle.step.specs.Step.{AnswersOver, recordsOver, outOver, Answers, recordsBy, answered, actBy, answerText, stepText, unreadText, printedOver, printedEnd};
 
 // Room for any row that is printed.
 pub const ROW_SPACE: usize = 80;
@@ -24,25 +24,12 @@ pub enum Answer {
     Receive(Receipt),
 }
 
-// The configuration at a node.
-pub fn at_node(config: Config, own: u8) -> Config
-    ensures { λ r. ⌜ r ≡ atNode config own ⌝ }
-{
-    Config {
-        n: config.n,
-        t: config.t,
-        d: config.d,
-        own,
-        day: config.day,
-    }
-}
-
 // Plays a step at the node of this configuration, over its records. What it sends is not looked at.
 pub fn play(config: Config, step: Step, records: &mut [u8]) -> Answer
     ensures { λ r. ⌜ Answers config step (now (records .entry)) r ⌝ }
     ensures { λ _. ⌜ now (records .exit) ≡ recordsBy config step (now (records .entry)) ⌝ }
 {
-    let mut out = [0u8; 32];
+    let mut out = [0u8; bundle::SIZE];
     call(config, step, records, &mut out)
 }
 
@@ -53,19 +40,25 @@ pub fn call(config: Config, step: Step, records: &mut [u8], out: &mut [u8]) -> A
     ensures { λ _. ⌜ now (records .exit) ≡ recordsOver config (now (out .entry)) step (now (records .entry)) ⌝ }
     ensures { λ _. ⌜ now (out .exit) ≡ outOver config (now (out .entry)) step (now (records .entry)) ⌝ }
 {
-    let mut bundle = [0u8; 32];
     match step {
-        Step::Broadcast { high, low } => {
-            let nobody = Header {
-                sender: 0,
-                seq: 0,
-                signers: 0,
-            };
-            bundle::encode(config.day, nobody, high, low, &mut bundle);
-            Answer::Broadcast(calls::broadcast(config, &bundle[16..32], records, out))
+        Step::Broadcast { payload } => {
+            let bytes = payload.to_bytes();
+            Answer::Broadcast(calls::broadcast(config, &bytes, records, out))
         }
-        Step::Receive { header, high, low } => {
-            bundle::encode(config.day, header, high, low, &mut bundle);
+        Step::Receive {
+            sender,
+            seq,
+            signers,
+            payload,
+        } => {
+            let header = Header {
+                day: config.day,
+                sender,
+                seq,
+                signers,
+            };
+            let mut bundle = [0u8; bundle::SIZE];
+            bundle::encode(header, payload, &mut bundle);
             Answer::Receive(calls::receive(config, &bundle, records, out))
         }
     }
@@ -73,9 +66,9 @@ pub fn call(config: Config, step: Step, records: &mut [u8], out: &mut [u8]) -> A
 
 // Prints a step's row over `out` from index `at` on, and answers where it ends. A buffer that has no room
 // for any row there stays as it is, and the answer is `at`.
-pub fn print(place: u64, node: u8, answer: Answer, at: usize, out: &mut [u8]) -> usize
-    ensures { λ r. ⌜ r ≡ printedEnd at (stepText place node (actBy answer) (answered answer)) (now (out .entry)) ⌝ }
-    ensures { λ _. ⌜ now (out .exit) ≡ printedOver at (stepText place node (actBy answer) (answered answer)) (now (out .entry)) ⌝ }
+pub fn print(ordinal: u64, node: u8, answer: Answer, at: usize, out: &mut [u8]) -> usize
+    ensures { λ r. ⌜ r ≡ printedEnd at (stepText ordinal node (actBy answer) (answered answer)) (now (out .entry)) ⌝ }
+    ensures { λ _. ⌜ now (out .exit) ≡ printedOver at (stepText ordinal node (actBy answer) (answered answer)) (now (out .entry)) ⌝ }
 {
     if out.len() < ROW_SPACE {
         return at;
@@ -83,7 +76,7 @@ pub fn print(place: u64, node: u8, answer: Answer, at: usize, out: &mut [u8]) ->
     if out.len() - ROW_SPACE < at {
         return at;
     }
-    let a = text::decimal(place, at, out);
+    let a = text::decimal(ordinal, at, out);
     match answer {
         Answer::Broadcast(announcement) => {
             let b = text::put(b" A ", a, out);
@@ -99,9 +92,9 @@ pub fn print(place: u64, node: u8, answer: Answer, at: usize, out: &mut [u8]) ->
 }
 
 // Prints the row of a step that is not read, in the same way.
-pub fn print_unread(place: u64, at: usize, out: &mut [u8]) -> usize
-    ensures { λ r. ⌜ r ≡ printedEnd at (unreadText place) (now (out .entry)) ⌝ }
-    ensures { λ _. ⌜ now (out .exit) ≡ printedOver at (unreadText place) (now (out .entry)) ⌝ }
+pub fn print_unread(ordinal: u64, at: usize, out: &mut [u8]) -> usize
+    ensures { λ r. ⌜ r ≡ printedEnd at (unreadText ordinal) (now (out .entry)) ⌝ }
+    ensures { λ _. ⌜ now (out .exit) ≡ printedOver at (unreadText ordinal) (now (out .entry)) ⌝ }
 {
     if out.len() < ROW_SPACE {
         return at;
@@ -109,11 +102,11 @@ pub fn print_unread(place: u64, at: usize, out: &mut [u8]) -> usize
     if out.len() - ROW_SPACE < at {
         return at;
     }
-    let a = text::decimal(place, at, out);
+    let a = text::decimal(ordinal, at, out);
     text::put(b" - - unread 0 0\n", a, out)
 }
 
-// The rest of a row, behind its node.
+// The rest of a row, after its node.
 fn announced(announcement: Announcement, at: usize, out: &mut [u8]) -> usize
     requires { ⌜ at + 34 ≤ length (now out) ⌝ }
     ensures { λ r. ⌜ r ≡ at + length (ascii " " ++ answerText (answered (Answer.Broadcast announcement))) ⌝ }

@@ -1,5 +1,5 @@
--- What the nodes show is what they delivered: the claims of specs/Shown.antt. Behind a lawful list the slot's bytes at a node are the record that the
--- acts leave, and that record is delivered with a payload exactly if the payload was delivered. From the laws of slots, of showing and of values.
+-- What the nodes show is what they delivered: the claims of specs/Shown.antt. After a lawful list the slot's bytes at a node are the record that the
+-- acts leave, and that record is delivered with a payload exactly if the payload was delivered. From proofs/Simulation.antt, and the laws of showing and of values.
 -- Assumes nothing.
 use mathlib.Core.Path.{_≡_, refl, sym, ap, _∙_, subst}
 use mathlib.Core.Bool.{Bool, true, false, true≢false, and-eq-true-iff}
@@ -8,27 +8,26 @@ use Prim.Native.Nat.{ℕ, _+_, _<_}
 use Rattle.octets.proofs.Same.{same-self}
 use Rattle.refusal.specs.Outcome.{Outcome, refused, done, after}
 use Rattle.refusal.proofs.Reasons.{refused-not-done}
-use Rattle.config.specs.Config.{good, quorum, place}
+use Rattle.config.specs.declared.Slot.{Slot}
+use Rattle.config.specs.Config.{withOwn, good, quorum, slotOfDay, place}
 use Rattle.config.proofs.Laws.{good-says}
-use Rattle.protocol.specs.Slot.{Record, Empty, Held, Delivered, isDelivered, payloadOf}
+use Rattle.bundle.specs.Bundle.{payloadIn}
+use Rattle.protocol.specs.Update.{Record, Empty, Held, Delivered, isDelivered, payloadOf}
 use Rattle.protocol.specs.Trace.{Trace}
-use Rattle.protocol.proofs.Sound.{Sound}
-use Rattle.protocol.proofs.Traces.{ever-finds, ever-mono}
-use Rattle.protocol.proofs.Told.{delivered-record, record-delivered}
-use Rattle.record.specs.Record.{recordIn, payloadAt}
-use Rattle.record.proofs.Image.{recordIn-image}
-use Rattle.calls.specs.Delivered.{delivered, deliveredPart}
-use Rattle.calls.proofs.Room.{range-says}
+use Rattle.protocol.proofs.WellFormed.{WellFormed}
+use Rattle.protocol.proofs.TraceLaws.{ever-finds, ever-mono}
+use Rattle.protocol.proofs.SentSoFar.{delivered-record, record-delivered}
+use Rattle.record.specs.Record.{decoded, payloadAt}
+use Rattle.record.proofs.Encoding.{decoded-encoding}
 use Rattle.calls.proofs.Refusals as refusals
 use Rattle.calls.proofs.Refusals.{delivered-says}
-use Rattle.calls.proofs.Kept.{record-shown}
-use Rattle.system.specs.Demand3.{Call, Open, Broadcast, Receive, System, config, payloadIn, recordsAfter, deliversIn, delivers, buffer, ever, called}
-use Rattle.system.specs.Shown.{ShownIsDelivered, ShownAgrees}
-use Rattle.system.proofs.Shared.{quorumOf, config-good, config-quorum}
-use Rattle.system.proofs.Matches.{Holds}
-use Rattle.system.proofs.Tests.{delivers-in}
-use Rattle.system.proofs.Ranges.{InRange}
-use Rattle.system.proofs.Slots.{correct-below, Orderly, assumed-orderly, acts, recordOf, order-holds}
+use Rattle.calls.proofs.Preserved.{record-shown}
+use Rattle.system.specs.Demand3.{Call, Open, Broadcast, Receive, System, configAt, recordsAfter, deliversIn, delivers, buffer, ever, called}
+use Rattle.system.specs.Shown.{shownPlace, shownPayload, ShownIsDelivered, ShownAgrees}
+use Rattle.system.proofs.CommonConfig.{quorumOf, config-good, config-quorum, InRange, range-at, range-from}
+use Rattle.system.proofs.CallMatchesAct.{HoldsRecord}
+use Rattle.system.proofs.CallTests.{delivers-in}
+use Rattle.system.proofs.Simulation.{correct-below, Orderly, assumed-orderly, acts, slotRecord, order-holds}
 use Rattle.system.proofs.Demand3.{delivered-forth, delivered-back, delivered-range, demand3}
 
 -- a record that is delivered has signers beside its payload
@@ -38,102 +37,105 @@ delivered-fields (Held signers payload) e = absurd (true≢false (sym e))
 delivered-fields (Delivered signers payload) e = (signers, refl)
 
 -- a call that delivers delivers some payload
-delivers-some : (s : System) (sender seq u : ℕ) (call : Call) (records : List ℕ) → deliversIn s sender seq u call records ≡ true
-    → (content : List ℕ) × (delivers s sender seq content u call records ≡ true) × Unit {0}
+delivers-some : (s : System) (slot : Slot) (u : ℕ) (call : Call) (records : List ℕ) → deliversIn s slot u call records ≡ true
+    → (payload : List ℕ) × (delivers s slot payload u call records ≡ true) × Unit {0}
 unfolding deliversIn delivers
-delivers-some s sender seq u Open records e = absurd (true≢false (sym e))
-delivers-some s sender seq u (Broadcast given out) records e = absurd (true≢false (sym e))
-delivers-some s sender seq u (Receive bundle out) records e =
+delivers-some s slot u Open records e = absurd (true≢false (sym e))
+delivers-some s slot u (Broadcast given out) records e = absurd (true≢false (sym e))
+delivers-some s slot u (Receive bundle out) records e =
     (payloadIn bundle, and-eq-true-iff _ _ .1 (e, same-self (payloadIn bundle)), tt)
 
-module _ (s : System) (list : Trace Call) (orderly : Orderly s list) (u sender seq : ℕ) (known : u < s .shared .n) (here : called s list u ≡ true) where
-  good-here : good (config s u) ≡ true
+module _ (s : System) (list : Trace Call) (orderly : Orderly s list) (u : ℕ) (slot : Slot) (today : slot .day ≡ s .shared .day) (known : u < s .shared .n) (here : called s list u ≡ true) where
+  good-here : good (configAt s u) ≡ true
   good-here = config-good s u (orderly .configured) known
 
   -- a slot that is shown is in range
-  shown-range : (start : ℕ) → delivered (config s u) sender seq (buffer s list u) ≡ done start → InRange s sender seq
-  unfolding config
-  shown-range start e = range-says (config s u) sender seq (delivered-says (config s u) sender seq (buffer s list u) start e .1)
+  shown-range : (start : ℕ) → shownPlace s list u slot ≡ done start → InRange s slot
+  unfolding configAt withOwn
+  shown-range start e = range-from s slot u today (delivered-says (configAt s u) slot (buffer s list u) start e .1)
 
-  module _ (range : InRange s sender seq) where
+  module _ (range : InRange s slot) where
     -- the record that the acts leave in the slot
     abbrev left : Record
-    left = recordOf s sender seq list u
+    left = slotRecord s slot list u
 
-    holds : Holds s sender seq u (buffer s list u) left
-    holds = order-holds s sender seq (range .0) (range .1) (orderly .configured) (orderly .dated) list (orderly .ordered) u here
+    holds : HoldsRecord s slot u (buffer s list u) left
+    holds = order-holds s slot range (orderly .configured) (orderly .dated) list (orderly .ordered) u here
 
-    sound : Sound (config s u .n) sender (quorum (config s u)) (config s u .own) left
-    unfolding config
-    sound =
-        subst (λ (q : ℕ). Sound (s .shared .n) sender q u left) (sym (config-quorum s u (orderly .configured) known)) (holds .sound)
+    left-well-formed : WellFormed (configAt s u .n) (slot .sender) (quorum (configAt s u)) (configAt s u .own) left
+    unfolding configAt withOwn
+    left-well-formed =
+        subst (λ (q : ℕ). WellFormed (s .shared .n) (slot .sender) q u left) (sym (config-quorum s u (orderly .configured) known)) (holds .well-formed)
 
     -- if it is delivered, its payload is shown
     left-shown : isDelivered left ≡ true
-        → (delivered (config s u) sender seq (buffer s list u) ≡ done (place (config s u) sender seq + payloadAt))
-        × (deliveredPart (config s u) sender seq (buffer s list u) ≡ payloadOf left)
-    unfolding config
-    left-shown d = record-shown (config s u) sender seq (buffer s list u) left good-here (range .0) (range .1) (holds .sized) (holds .held) sound d
+        → (shownPlace s list u slot ≡ done (place (configAt s u) slot + payloadAt))
+        × (shownPayload s list u slot ≡ payloadOf left)
+    left-shown d = record-shown (configAt s u) slot (buffer s list u) left good-here (range-at s slot u range) (holds .sized) (holds .held) left-well-formed d
 
     -- and if something is shown, it is delivered
-    shown-left : (start : ℕ) → delivered (config s u) sender seq (buffer s list u) ≡ done start → isDelivered left ≡ true
+    shown-left : (start : ℕ) → shownPlace s list u slot ≡ done start → isDelivered left ≡ true
     shown-left start e =
         sym (ap isDelivered
-        (ap recordIn (holds .held)
-        ∙ recordIn-image (config s u .n) sender (quorum (config s u)) (config s u .own) (good-says (config s u) good-here .most) left sound))
-        ∙ refusals.delivered-record (config s u) sender seq (buffer s list u) start e
+        (ap decoded (holds .held)
+        ∙ decoded-encoding (configAt s u .n) (slot .sender) (quorum (configAt s u)) (configAt s u .own) (good-says (configAt s u) good-here .most) left left-well-formed))
+        ∙ refusals.delivered-record (configAt s u) slot (buffer s list u) start e
 
   -- what is shown was delivered,
-  shown-delivered : (content : List ℕ) (start : ℕ) → delivered (config s u) sender seq (buffer s list u) ≡ done start
-      → deliveredPart (config s u) sender seq (buffer s list u) ≡ content → ever s (delivers s sender seq content) list u ≡ true
-  shown-delivered content start e this =
+  shown-delivered : (payload : List ℕ) (start : ℕ) → shownPlace s list u slot ≡ done start
+      → shownPayload s list u slot ≡ payload → ever s (delivers s slot payload) list u ≡ true
+  shown-delivered payload start e this =
       let range = shown-range start e in
       let d = shown-left range start e in
       let (signers, is) = delivered-fields (left range) d in
-      delivered-back s list orderly sender seq range content u
-      (record-delivered (quorumOf s) (acts s sender seq list) u signers content
+      delivered-back s list orderly slot range payload u
+      (record-delivered (quorumOf s) (acts s slot list) u signers payload
       (is ∙ ap (Delivered signers) (sym (left-shown range d .1) ∙ this)))
 
   -- and what was delivered is shown
-  delivered-shown : (content : List ℕ) → ever s (delivers s sender seq content) list u ≡ true
-      → (delivered (config s u) sender seq (buffer s list u) ≡ done (place (config s u) sender seq + payloadAt))
-      × (deliveredPart (config s u) sender seq (buffer s list u) ≡ content)
-  delivered-shown content e =
-      let range = delivered-range s list u sender seq content e in
+  delivered-shown : (payload : List ℕ) → ever s (delivers s slot payload) list u ≡ true
+      → (shownPlace s list u slot ≡ done (place (configAt s u) slot + payloadAt))
+      × (shownPayload s list u slot ≡ payload)
+  delivered-shown payload e =
+      let range = delivered-range s list u slot payload e in
       let (signers, is, sent) =
-      delivered-record (quorumOf s) (acts s sender seq list) u content (delivered-forth s list orderly sender seq range content u e) in
+      delivered-record (quorumOf s) (acts s slot list) u payload (delivered-forth s list orderly slot range payload u e) in
       let shown = left-shown range (ap isDelivered is) in
       (shown .0, shown .1 ∙ ap payloadOf is)
 
   -- so a slot is shown exactly if the node was answered delivered there, whatever the payload
-  pub shown-answered : after (delivered (config s u) sender seq (buffer s list u)) (λ place. true) false ≡ ever s (deliversIn s sender seq) list u
-  shown-answered = go (delivered (config s u) sender seq (buffer s list u)) refl (ever s (deliversIn s sender seq) list u) refl
+  pub shown-answered : after (shownPlace s list u slot) (λ place. true) false ≡ ever s (deliversIn s slot) list u
+  shown-answered = go (shownPlace s list u slot) refl (ever s (deliversIn s slot) list u) refl
     where
-      go : (o : Outcome ℕ) → delivered (config s u) sender seq (buffer s list u) ≡ o → (b : Bool) → ever s (deliversIn s sender seq) list u ≡ b
+      go : (o : Outcome ℕ) → shownPlace s list u slot ≡ o → (b : Bool) → ever s (deliversIn s slot) list u ≡ b
           → after o (λ place. true) false ≡ b
       go (done start) e true f = refl
       go (done start) e false f =
-          sym (ever-mono (s .buffers) (recordsAfter s) (delivers s sender seq _) (deliversIn s sender seq) u
-          (λ call records. delivers-in s sender seq _ u call records) list (shown-delivered _ start e refl)) ∙ f
+          sym (ever-mono (s .buffers) (recordsAfter s) (delivers s slot _) (deliversIn s slot) u
+          (λ call records. delivers-in s slot _ u call records) list (shown-delivered _ start e refl)) ∙ f
       go (refused number) e true f =
-          let (content, answered, rest) =
-          ever-finds (s .buffers) (recordsAfter s) (deliversIn s sender seq) (λ content. delivers s sender seq content) (λ content. Unit {0}) u
-          (delivers-some s sender seq u) list f in
-          absurd (refused-not-done number _ (sym e ∙ delivered-shown content answered .0))
+          let (payload, answered, rest) =
+          ever-finds (s .buffers) (recordsAfter s) (deliversIn s slot) (λ payload. delivers s slot payload) (λ payload. Unit {0}) u
+          (delivers-some s slot u) list f in
+          absurd (refused-not-done number _ (sym e ∙ delivered-shown payload answered .0))
       go (refused number) e false f = refl
 
 -- ---- the claims
 
 pub shown-is-delivered : ShownIsDelivered
-shown-is-delivered s list assumed u sender seq content fine here =
+unfolding slotOfDay
+shown-is-delivered s list assumed u sender seq payload fine here =
     let orderly = assumed-orderly s list assumed in
+    let slot = slotOfDay (s .shared) sender seq in
     let known = correct-below s u fine in
-    (shown-delivered s list orderly u sender seq known here content, delivered-shown s list orderly u sender seq known here content)
+    (shown-delivered s list orderly u slot refl known here payload, delivered-shown s list orderly u slot refl known here payload)
 
 -- the payloads shown were delivered, and those agree
 pub shown-agrees : ShownAgrees
+unfolding slotOfDay
 shown-agrees s list assumed u v sender seq here there fu fv cu cv e f =
     let orderly = assumed-orderly s list assumed in
-    demand3 s list assumed .agreement u v sender seq _ _ fu fv
-    (shown-delivered s list orderly u sender seq (correct-below s u fu) cu _ here e refl)
-    (shown-delivered s list orderly v sender seq (correct-below s v fv) cv _ there f refl)
+    let slot = slotOfDay (s .shared) sender seq in
+    demand3 s list assumed .agreement u v slot _ _ fu fv
+    (shown-delivered s list orderly u slot refl (correct-below s u fu) cu _ here e refl)
+    (shown-delivered s list orderly v slot refl (correct-below s v fv) cv _ there f refl)

@@ -1,6 +1,6 @@
--- Demand 3: a single claim about a whole list of calls, at all correct nodes together. Its words are those of document 01, "The list in demand 3",
--- each a definition here, read off what the calls' own contracts cite: their answers, the records and the outgoing bytes they leave.
--- A unit is a node and its own number u names it; a body is a payload; a sound unit is a correct node.
+-- Demand 3 of document 01: one claim about a whole list of calls, at all correct nodes together. What the paper says of such a list under "The list
+-- in demand 3" is a definition here, read off what the calls' own contracts cite: their answers, and the records and outgoing bytes that they leave.
+-- A node is named by its own number.
 -- It is proved in proofs/Demand3.antt.
 -- Assumes nothing.
 use mathlib.Core.Path.{_≡_}
@@ -10,214 +10,217 @@ use mathlib.Core.List.{List, []}
 use Prim.Native.Nat.{ℕ, _-_, _≤_, _<_, _^_}
 use lib.Dec.{ltb, eqb}
 use lib.ListN.{length}
-use Rattle.octets.specs.Octets.{same, part}
+use Rattle.octets.specs.Octets.{same}
 use Rattle.signers.specs.Sets.{NodeSet, count, both}
 use Rattle.signers.specs.Signers.{member}
 use Rattle.refusal.specs.Outcome.{done, after}
 use Rattle.config.specs.declared.Config.{Config}
-use Rattle.config.specs.Config.{good, recordsSize}
+use Rattle.config.specs.declared.Slot.{Slot}
+use Rattle.config.specs.Config.{withOwn, good, sameSlot, recordsSize}
 use Rattle.bundle.specs.declared.Header.{Header}
-use Rattle.bundle.specs.Bundle.{size, payloadStart, payloadSize, dayOf, headerOf, read, payload}
-use Rattle.protocol.specs.Slot as slot
+use Rattle.bundle.specs.Bundle.{bundleSize, slotIn, headerIn, payloadIn, read, payloadPart, slotOf}
+use Rattle.protocol.specs.Update as answers
 use Rattle.protocol.specs.Trace as trace
 use Rattle.protocol.specs.Trace.{Trace, start, _then_calls_}
+use Rattle.calls.specs.Records.{ownSlot}
 use Rattle.calls.specs.Open.{openRecords}
 use Rattle.calls.specs.Broadcast as calls-broadcast
 use Rattle.calls.specs.Receive as calls-receive
 
--- "any list of opening, announcing and taking calls": "Bundles, bodies and outgoing bytes are any, of any length."
+-- Opening a day, broadcasting a payload and receiving a bundle, with the outgoing bytes given by the caller. Payloads, bundles and outgoing bytes may
+-- be any, of any length.
 pub data Call : Type 0 where
   Open : Call
-  Broadcast : (content out : List ℕ) → Call
+  Broadcast : (payload out : List ℕ) → Call
   Receive : (bundle out : List ℕ) → Call
 
--- "A cascade of n units, f of them faulty, .. shares one good table but for own numbers, all different." Each node has a record buffer, "with any
--- content before the opening". The own number that stands in `shared` is nobody's.
+-- The nodes share one configuration but for their own numbers; the own number that stands in `shared` is not used. Some nodes are faulty. Each node
+-- has a buffer of records, with any bytes in it before the day is opened.
 pub record System : Type 0 where
   pub shared : Config
   pub faulty : NodeSet
-  pub buffers : ℕ → List ℕ
+  pub buffers : (node : ℕ) → List ℕ
 
--- the slot that a bundle's bytes name: day, sender and number
-unfoldable pub inSlot : ℕ → ℕ → ℕ → List ℕ → Bool
-inSlot day sender seq bundle = eqb (dayOf bundle) day && (eqb (headerOf bundle .sender) sender && eqb (headerOf bundle .seq) seq)
-
--- the payload in a bundle's bytes
-abbrev pub payloadIn : List ℕ → List ℕ
-payloadIn bundle = part payloadStart payloadSize bundle
+-- the bundle's bytes name this slot
+unfoldable pub inSlot : (slot : Slot) (bundle : List ℕ) → Bool
+inSlot slot bundle = sameSlot (slotIn bundle) slot
 
 module _ (s : System) where
-  -- "that unit's table"
-  unfoldable pub config : ℕ → Config
-  config u = record { n = s .shared .n; t = s .shared .t; d = s .shared .d; own = u; day = s .shared .day }
+  -- the configuration at a node
+  unfoldable pub configAt : (node : ℕ) → Config
+  configAt node = withOwn (s .shared) node
 
   unfoldable pub correct : NodeSet
-  correct u = ltb u (s .shared .n) && not (s .faulty u)
+  correct node = ltb node (s .shared .n) && not (s .faulty node)
 
-  -- "c = n - f"; a set that has at least c - d correct nodes, each counted once
-  unfoldable pub c : ℕ
-  c = s .shared .n - count (s .faulty) (s .shared .n)
+  -- the number of correct nodes, which the paper calls c
+  unfoldable pub correctCount : ℕ
+  correctCount = s .shared .n - count (s .faulty) (s .shared .n)
 
+  -- the set has at least c - d correct nodes, each counted once
   abbrev pub NearlyAll : NodeSet → Type 0
-  NearlyAll p = c - s .shared .d ≤ count (both correct p) (s .shared .n)
+  NearlyAll p = correctCount - s .shared .d ≤ count (both correct p) (s .shared .n)
 
-  -- ---- one call at node u, which finds the buffer `records`
+  -- ---- one call at a node that finds the buffer `records`
 
   -- the buffer as the call leaves it
-  unfoldable pub recordsAfter : ℕ → Call → List ℕ → List ℕ
-  recordsAfter u Open records = openRecords (config u) records
-  recordsAfter u (Broadcast content out) records = calls-broadcast.broadcastRecords (config u) content records out
-  recordsAfter u (Receive bundle out) records = calls-receive.receiveRecords (config u) bundle records out
+  unfoldable pub recordsAfter : (node : ℕ) (call : Call) (records : List ℕ) → List ℕ
+  recordsAfter node Open records = openRecords (configAt node) records
+  recordsAfter node (Broadcast payload out) records = calls-broadcast.broadcastRecords (configAt node) payload records out
+  recordsAfter node (Receive bundle out) records = calls-receive.receiveRecords (configAt node) bundle records out
 
   -- the outgoing bytes as the call leaves them; opening has none
-  unfoldable pub outAfter : ℕ → Call → List ℕ → List ℕ
-  outAfter u Open records = []
-  outAfter u (Broadcast content out) records = calls-broadcast.broadcastOut (config u) content records out
-  outAfter u (Receive bundle out) records = calls-receive.receiveOut (config u) bundle records out
+  unfoldable pub outAfter : (node : ℕ) (call : Call) (records : List ℕ) → List ℕ
+  outAfter node Open records = []
+  outAfter node (Broadcast payload out) records = calls-broadcast.broadcastOut (configAt node) payload records out
+  outAfter node (Receive bundle out) records = calls-receive.receiveOut (configAt node) bundle records out
 
-  unfoldable pub opens : ℕ → Call → List ℕ → Bool
-  opens u Open records = true
-  opens u (Broadcast content out) records = false
-  opens u (Receive bundle out) records = false
+  unfoldable pub opens : (node : ℕ) (call : Call) (records : List ℕ) → Bool
+  opens node Open records = true
+  opens node (Broadcast payload out) records = false
+  opens node (Receive bundle out) records = false
 
-  -- "A unit announces a body when announcing it is answered announced; the slot is the day, its own number and the number answered."
-  unfoldable pub announcesIn : ℕ → ℕ → Call → List ℕ → Bool
-  announcesIn seq u Open records = false
-  announcesIn seq u (Broadcast given out) records = after (calls-broadcast.broadcast (config u) given records out) (λ k. eqb k seq) false
-  announcesIn seq u (Receive bundle out) records = false
+  -- The node announces in a slot when a broadcast is answered announced. The slot is the node's own with the number answered. It announces this payload
+  -- there when the payload broadcast is this one.
+  unfoldable pub announcesIn : (slot : Slot) (node : ℕ) (call : Call) (records : List ℕ) → Bool
+  announcesIn slot node Open records = false
+  announcesIn slot node (Broadcast given out) records =
+      after (calls-broadcast.broadcast (configAt node) given records out) (λ seq. sameSlot (ownSlot (configAt node) seq) slot) false
+  announcesIn slot node (Receive bundle out) records = false
 
-  unfoldable pub announces : ℕ → List ℕ → ℕ → Call → List ℕ → Bool
-  announces seq content u Open records = false
-  announces seq content u (Broadcast given out) records = announcesIn seq u (Broadcast given out) records && same given content
-  announces seq content u (Receive bundle out) records = false
+  unfoldable pub announces : (slot : Slot) (payload : List ℕ) (node : ℕ) (call : Call) (records : List ℕ) → Bool
+  announces slot payload node Open records = false
+  announces slot payload node (Broadcast given out) records = announcesIn slot node (Broadcast given out) records && same given payload
+  announces slot payload node (Receive bundle out) records = false
 
-  -- "It delivers a body in a slot when taking is answered delivered; slot and body are those of the bundle given."
-  unfoldable pub deliversIn : ℕ → ℕ → ℕ → Call → List ℕ → Bool
-  deliversIn sender seq u Open records = false
-  deliversIn sender seq u (Broadcast given out) records = false
-  deliversIn sender seq u (Receive bundle out) records =
-      after (calls-receive.receive (config u) bundle records out) (λ turn. slot.delivers (turn .answer) && inSlot (s .shared .day) sender seq bundle) false
+  -- The node delivers in a slot when receiving a bundle of that slot is answered delivered. It delivers this payload there when the bundle has it.
+  unfoldable pub deliversIn : (slot : Slot) (node : ℕ) (call : Call) (records : List ℕ) → Bool
+  deliversIn slot node Open records = false
+  deliversIn slot node (Broadcast given out) records = false
+  deliversIn slot node (Receive bundle out) records =
+      after (calls-receive.receive (configAt node) bundle records out) (λ result. answers.delivers (result .answer) && inSlot slot bundle) false
 
-  unfoldable pub delivers : ℕ → ℕ → List ℕ → ℕ → Call → List ℕ → Bool
-  delivers sender seq content u Open records = false
-  delivers sender seq content u (Broadcast given out) records = false
-  delivers sender seq content u (Receive bundle out) records =
-      deliversIn sender seq u (Receive bundle out) records && same (payloadIn bundle) content
+  unfoldable pub delivers : (slot : Slot) (payload : List ℕ) (node : ℕ) (call : Call) (records : List ℕ) → Bool
+  delivers slot payload node Open records = false
+  delivers slot payload node (Broadcast given out) records = false
+  delivers slot payload node (Receive bundle out) records = deliversIn slot node (Receive bundle out) records && same (payloadIn bundle) payload
 
-  -- "It sends one bundle with each answer announced, signed or delivered."
-  unfoldable pub sends : ℕ → Call → List ℕ → Bool
-  sends u Open records = false
-  sends u (Broadcast given out) records = after (calls-broadcast.broadcast (config u) given records out) (λ k. true) false
-  sends u (Receive bundle out) records = after (calls-receive.receive (config u) bundle records out) (λ turn. slot.sends (turn .answer)) false
+  -- The node sends a bundle with each answer announced, signed or delivered. The bundle is the outgoing bytes: these bytes, or some of this slot.
+  unfoldable pub sends : (node : ℕ) (call : Call) (records : List ℕ) → Bool
+  sends node Open records = false
+  sends node (Broadcast given out) records = after (calls-broadcast.broadcast (configAt node) given records out) (λ seq. true) false
+  sends node (Receive bundle out) records =
+      after (calls-receive.receive (configAt node) bundle records out) (λ result. answers.sends (result .answer)) false
 
-  -- "What a unit sends is the outgoing bytes of announced, signed and delivered.": these bytes; some in this slot
-  unfoldable pub sendsThis : List ℕ → ℕ → Call → List ℕ → Bool
-  sendsThis bundle u call records = sends u call records && same (outAfter u call records) bundle
+  unfoldable pub sendsThis : (bundle : List ℕ) (node : ℕ) (call : Call) (records : List ℕ) → Bool
+  sendsThis bundle node call records = sends node call records && same (outAfter node call records) bundle
 
-  unfoldable pub sendsIn : ℕ → ℕ → ℕ → Call → List ℕ → Bool
-  sendsIn sender seq u call records = sends u call records && inSlot (s .shared .day) sender seq (outAfter u call records)
+  unfoldable pub sendsIn : (slot : Slot) (node : ℕ) (call : Call) (records : List ℕ) → Bool
+  sendsIn slot node call records = sends node call records && inSlot slot (outAfter node call records)
 
-  -- "It has signed a body in a slot once it has sent a bundle of that slot and body with its own bit set."
-  unfoldable pub signs : ℕ → ℕ → List ℕ → ℕ → Call → List ℕ → Bool
-  signs sender seq content u call records =
-      sendsIn sender seq u call records
-      && (same (payloadIn (outAfter u call records)) content && member (headerOf (outAfter u call records) .signers) u)
+  -- the node signs a payload in a slot when it sends a bundle of that slot and payload with its own bit set
+  unfoldable pub signs : (slot : Slot) (payload : List ℕ) (node : ℕ) (call : Call) (records : List ℕ) → Bool
+  signs slot payload node call records =
+      sendsIn slot node call records
+      && (same (payloadIn (outAfter node call records)) payload && member (headerIn (outAfter node call records) .signers) node)
 
-  -- "A bundle reaches a unit by its 32 bytes, whoever brings them; a refused taking with 32 outgoing bytes counts too."
-  unfoldable pub reaches : List ℕ → ℕ → Call → List ℕ → Bool
-  reaches bundle u Open records = false
-  reaches bundle u (Broadcast given out) records = false
-  reaches bundle u (Receive given out) records = same given bundle && eqb (length out) size
+  -- A bundle reaches the node when a call there receives its bytes with 32 outgoing bytes, whoever brings it, and also if the call is refused.
+  unfoldable pub reaches : (bundle : List ℕ) (node : ℕ) (call : Call) (records : List ℕ) → Bool
+  reaches bundle node Open records = false
+  reaches bundle node (Broadcast given out) records = false
+  reaches bundle node (Receive given out) records = same given bundle && eqb (length out) bundleSize
 
-  -- ---- and on a list of calls. "It gets the buffer as the last call at that unit left it; nobody else writes there meanwhile."
+  -- ---- and on a list of calls. A call gets the buffer as the last call at its node left it.
 
-  abbrev pub buffer : Trace Call → ℕ → List ℕ
+  abbrev pub buffer : (list : Trace Call) (node : ℕ) → List ℕ
   buffer = trace.state (s .buffers) recordsAfter
 
-  abbrev pub ever : (ℕ → Call → List ℕ → Bool) → Trace Call → ℕ → Bool
+  -- some call of the list at the node passes a test; how many do
+  abbrev pub ever : (test : (node : ℕ) (call : Call) (records : List ℕ) → Bool) (list : Trace Call) (node : ℕ) → Bool
   ever = trace.ever (s .buffers) recordsAfter
 
-  abbrev pub times : (ℕ → Call → List ℕ → Bool) → Trace Call → ℕ → ℕ
+  abbrev pub times : (test : (node : ℕ) (call : Call) (records : List ℕ) → Bool) (list : Trace Call) (node : ℕ) → ℕ
   times = trace.times (s .buffers) recordsAfter
 
   -- some call is at the node
-  abbrev pub called : Trace Call → ℕ → Bool
-  called = ever (λ u call records. true)
+  abbrev pub called : (list : Trace Call) (node : ℕ) → Bool
+  called = ever (λ node call records. true)
 
-  -- "What faulty units cannot do: in each bundle given to taking that reading accepts there, every sound unit's bit is set only if that unit
-  -- signed this body in this slot by an earlier call on the list."
-  abbrev pub Unforged : Trace Call → ℕ → Call → Type 0
-  Unforged earlier u Open = Unit
-  Unforged earlier u (Broadcast given out) = Unit
-  Unforged earlier u (Receive bundle out) =
-      (h : Header) → read (config u) bundle ≡ done h
+  -- What faulty nodes cannot do: where a node receives a bundle that reading accepts there, a correct node's bit is set only if that node signed this
+  -- payload in this slot by an earlier call of the list.
+  abbrev pub Unforged : (earlier : Trace Call) (node : ℕ) (call : Call) → Type 0
+  Unforged earlier node Open = Unit
+  Unforged earlier node (Broadcast given out) = Unit
+  Unforged earlier node (Receive bundle out) =
+      (h : Header) → read (configAt node) bundle ≡ done h
       → (v : ℕ) → correct v ≡ true → member (h .signers) v ≡ true
-      → ever (signs (h .sender) (h .seq) (payload (config u) bundle)) earlier v ≡ true
+      → ever (signs (slotOf h) (payloadPart (configAt node) bundle)) earlier v ≡ true
 
-  -- "Each call is at one sound unit, with that unit's table and its own record buffer, of the right length and with any content before the opening";
-  -- "each unit called opens the day first, and once only": a call is an opening where no call was at that unit before, and only there.
-  abbrev pub Lawful : Trace Call → Type 0
+  -- Each call is at a correct node, whose buffer has the right length. Each node called opens the day first, and once only: a call is an opening where
+  -- no call was at that node before, and only there.
+  abbrev pub Lawful : (list : Trace Call) → Type 0
   Lawful start = Unit
-  Lawful (earlier then u calls call) =
+  Lawful (earlier then node calls call) =
       Lawful earlier
-      × (correct u ≡ true)
-      × (length (s .buffers u) ≡ recordsSize (config u))
-      × (opens u call (buffer earlier u) ≡ not (called earlier u))
-      × Unforged earlier u call
+      × (correct node ≡ true)
+      × (length (s .buffers node) ≡ recordsSize (configAt node))
+      × (opens node call (buffer earlier node) ≡ not (called earlier node))
+      × Unforged earlier node call
 
   -- ---- the claim
 
   module _ (list : Trace Call) where
-    -- what is assumed: at most t nodes are faulty, and the table is good, so n > 3t + 2d. That the day fits 32 bits is what its type says.
+    -- What is assumed: the configuration is good, so that n > 3t + 2d; at most t nodes are faulty; and the list is lawful. That the day fits 32 bits is
+    -- what its type says.
     pub record Assumed : Type 0 where
-      pub configured : good (config 0) ≡ true
+      pub configured : good (configAt 0) ≡ true
       pub dated : s .shared .day < 2 ^ 32
       pub few : count (s .faulty) (s .shared .n) ≤ s .shared .t
       pub lawful : Lawful list
 
-    -- "no two sound units have delivered different bodies for one slot,"
+    -- no two correct nodes have delivered different payloads in one slot
     abbrev pub Agreement : Type 0
     Agreement =
-        (u v sender seq : ℕ) (first second : List ℕ) → correct u ≡ true → correct v ≡ true
-        → ever (delivers sender seq first) list u ≡ true → ever (delivers sender seq second) list v ≡ true
+        (u v : ℕ) (slot : Slot) (first second : List ℕ) → correct u ≡ true → correct v ≡ true
+        → ever (delivers slot first) list u ≡ true → ever (delivers slot second) list v ≡ true
         → first ≡ second
 
-    -- "none has delivered a slot twice,": "Delivering a slot twice is two such answers at one unit."
-    abbrev pub Once : Type 0
-    Once = (u sender seq : ℕ) → correct u ≡ true → times (deliversIn sender seq) list u ≤ 1
+    -- no correct node has delivered a slot twice: was answered delivered there twice
+    abbrev pub DeliversOnce : Type 0
+    DeliversOnce = (u : ℕ) (slot : Slot) → correct u ≡ true → times (deliversIn slot) list u ≤ 1
 
-    -- "a sound sender's slot has yielded only its announcement,"
+    -- what is delivered in a correct sender's slot was announced there by the sender
     abbrev pub Validity : Type 0
     Validity =
-        (u sender seq : ℕ) (content : List ℕ) → correct u ≡ true → correct sender ≡ true
-        → ever (delivers sender seq content) list u ≡ true
-        → ever (announces seq content) list sender ≡ true
+        (u : ℕ) (slot : Slot) (payload : List ℕ) → correct u ≡ true → correct (slot .sender) ≡ true
+        → ever (delivers slot payload) list u ≡ true
+        → ever (announces slot payload) list (slot .sender) ≡ true
 
-    -- "the one its sender announced there": a sound unit announces at most one body in a slot
-    abbrev pub Single : Type 0
-    Single = (u seq : ℕ) → correct u ≡ true → times (announcesIn seq) list u ≤ 1
+    -- a correct node announces at most once in a slot, so that what it announced there is one payload
+    abbrev pub AnnouncesOnce : Type 0
+    AnnouncesOnce = (u : ℕ) (slot : Slot) → correct u ≡ true → times (announcesIn slot) list u ≤ 1
 
-    -- "and each sound unit has sent at most two bundles per slot."
-    abbrev pub Twice : Type 0
-    Twice = (u sender seq : ℕ) → correct u ≡ true → times (sendsIn sender seq) list u ≤ 2
+    -- a correct node has sent at most two bundles in a slot
+    abbrev pub SendsAtMostTwice : Type 0
+    SendsAtMostTwice = (u : ℕ) (slot : Slot) → correct u ≡ true → times (sendsIn slot) list u ≤ 2
 
-    -- "If every bundle sent by a sound unit has by then reached at least c - d sound units, itself counted if reached,"
+    -- If every bundle that a correct node sent has reached at least c - d correct nodes, itself counted if reached,
     abbrev pub Reached : Type 0
     Reached = (u : ℕ) (bundle : List ℕ) → correct u ≡ true → ever (sendsThis bundle) list u ≡ true → NearlyAll (ever (reaches bundle) list)
 
-    -- "each sound unit's announcement, and each body that any sound unit delivered, has been delivered by at least c - d sound units."
+    -- then what a correct node announced or delivered has been delivered by at least c - d correct nodes.
     abbrev pub Delivery : Type 0
     Delivery =
-        (u sender seq : ℕ) (content : List ℕ) → correct u ≡ true
-        → ((u ≡ sender) × (ever (announces seq content) list u ≡ true)) ⊎ (ever (delivers sender seq content) list u ≡ true)
-        → NearlyAll (ever (delivers sender seq content) list)
+        (u : ℕ) (slot : Slot) (payload : List ℕ) → correct u ≡ true
+        → (ever (announces slot payload) list u ≡ true) ⊎ (ever (delivers slot payload) list u ≡ true)
+        → NearlyAll (ever (delivers slot payload) list)
 
     pub record Concluded : Type 0 where
       pub agreement : Agreement
-      pub once : Once
+      pub delivers-once : DeliversOnce
       pub validity : Validity
-      pub single : Single
-      pub twice : Twice
+      pub announces-once : AnnouncesOnce
+      pub sends-at-most-twice : SendsAtMostTwice
       pub delivery : Reached → Delivery
 
 abbrev pub Demand3 : Type 0

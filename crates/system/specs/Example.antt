@@ -8,16 +8,24 @@ use Prim.Native.Nat.{ℕ, _-_}
 use lib.Dec.{eqb}
 use lib.ListN.{replicate}
 use Rattle.signers.specs.Sets.{count, both}
-use Rattle.bundle.specs.Bundle.{size, payloadSize, bundleOf}
+use Rattle.payload.specs.Payload.{payloadSize}
+use Rattle.config.specs.declared.Config.{Config}
+use Rattle.config.specs.declared.Slot.{Slot}
+use Rattle.config.specs.Config.{configFor, slotOfDay, recordsSize}
+use Rattle.bundle.specs.Bundle.{bundleSize, bundleOf, headerOfDay}
 use Rattle.protocol.specs.Trace.{Trace, start, _then_calls_, each}
-use Rattle.system.specs.Demand3.{Call, Open, Broadcast, Receive, System, correct, c, announces, delivers, sendsThis, signs, reaches, ever, Assumed, Reached}
+use Rattle.system.specs.Demand3.{Call, Open, Broadcast, Receive, System, correct, correctCount, announces, delivers, sendsThis, signs, reaches, ever, Assumed, Reached}
 
--- six nodes, of which 5 is faulty; a sending may miss one correct node. The quorum is 4.
+-- Six nodes, of which one may be faulty; a sending may miss one correct node. The quorum is 4.
+unfoldable pub sixNodes : Config
+sixNodes = configFor 6 1 1 7
+
+-- node 5 is the faulty one
 unfoldable pub six : System
 six = record {
-  shared = record { n = 6; t = 1; d = 1; own = 0; day = 7 };
-  faulty = λ u. eqb u 5;
-  buffers = λ u. replicate 3072 255;
+  shared = sixNodes;
+  faulty = λ node. eqb node 5;
+  buffers = λ node. replicate (recordsSize sixNodes) 255;
 }
 
 -- the two payloads that node 5 sends, and the one that node 0 announces
@@ -30,9 +38,13 @@ second = replicate payloadSize 2
 unfoldable pub third : List ℕ
 third = replicate payloadSize 3
 
--- receiving, with outgoing bytes of the right length, a bundle of this sender's slot 0. Signers as words: bit u stands for node u.
-unfoldable pub gets : ℕ → ℕ → List ℕ → Call
-gets sender signers content = Receive (bundleOf 7 (record { sender = sender; seq = 0; signers = signers }) content) (replicate size 0)
+-- the sender's first slot of the day
+unfoldable pub firstSlot : (sender : ℕ) → Slot
+firstSlot sender = slotOfDay sixNodes sender 0
+
+-- receiving, with outgoing bytes of the right length, a bundle of the sender's first slot. Signers are a word, in which bit u stands for node u.
+unfoldable pub gets : (sender signers : ℕ) (payload : List ℕ) → Call
+gets sender signers payload = Receive (bundleOf (headerOfDay sixNodes sender 0 signers) payload) (replicate bundleSize 0)
 
 -- the slot of node 5. What it signs itself, 32, goes to 0, and with the other payload to 4. Node 0 sends 33, 1 sends 35 and 2, which delivers, sends
 -- 39; 4 sends 48. Then 39 lets 0, 1, 3 and 4 deliver, 4 although it signed the other payload, and 3 sends 47. The calls after these eight are refused:
@@ -68,7 +80,7 @@ faultySlot before =
 unfoldable pub correctSlot : Trace Call → Trace Call
 correctSlot before =
     before
-    then 0 calls Broadcast third (replicate size 0)
+    then 0 calls Broadcast third (replicate bundleSize 0)
     then 1 calls gets 0 1 third
     then 2 calls gets 0 3 third
     then 3 calls gets 0 7 third
@@ -93,18 +105,18 @@ correctSlot before =
 unfoldable pub list : Trace Call
 list = correctSlot (faultySlot (start then 0 calls Open then 1 calls Open then 2 calls Open then 3 calls Open then 4 calls Open))
 
--- so many correct nodes has a bundle reached
-abbrev pub reached : List ℕ → ℕ
+-- how many correct nodes the bundle has reached
+abbrev pub reached : (bundle : List ℕ) → ℕ
 reached bundle = count (both (correct six) (ever six (reaches six bundle) list)) (six .shared .n)
 
--- the list meets every hypothesis of demand 3, with each bundle that a correct node sent reaching c - d of them and not one more; node 4 signed one
--- payload in the slot of node 5, and it delivered the other, as all correct nodes did; and node 0 announced a payload, which all of them delivered
+-- The list meets every hypothesis of demand 3, with each bundle that a correct node sent reaching c - d of them and not one more. Node 4 signed one
+-- payload in the slot of node 5 and delivered the other, as all correct nodes did. Node 0 announced a payload, which all of them delivered.
 abbrev pub NotVacuous : Type 0
 NotVacuous =
     Assumed six list
     × Reached six list
-    × ((u : ℕ) (bundle : List ℕ) → correct six u ≡ true → ever six (sendsThis six bundle) list u ≡ true → reached bundle ≡ c six - six .shared .d)
-    × (ever six (signs six 5 0 second) list 4 ≡ true)
-    × (each (ever six (delivers six 5 0 first) list) 5 ≡ true)
-    × (ever six (announces six 0 third) list 0 ≡ true)
-    × (each (ever six (delivers six 0 0 third) list) 5 ≡ true)
+    × ((u : ℕ) (bundle : List ℕ) → correct six u ≡ true → ever six (sendsThis six bundle) list u ≡ true → reached bundle ≡ correctCount six - six .shared .d)
+    × (ever six (signs six (firstSlot 5) second) list 4 ≡ true)
+    × (each (ever six (delivers six (firstSlot 5) first) list) 5 ≡ true)
+    × (ever six (announces six (firstSlot 0) third) list 0 ≡ true)
+    × (each (ever six (delivers six (firstSlot 0) third) list) 5 ≡ true)

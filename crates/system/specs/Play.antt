@@ -8,107 +8,113 @@ use Prim.Native.Nat.{ℕ, suc}
 use lib.ListN.{replicate}
 use Rattle.refusal.specs.Refusal.{numberOf}
 use Rattle.refusal.specs.Outcome.{done, _and-then_}
-use Rattle.bundle.specs.Bundle.{size, bundleOf}
+use Rattle.config.specs.declared.Config.{Config}
+use Rattle.config.specs.Config.{configFor, recordsSize}
+use Rattle.bundle.specs.Bundle.{bundleSize, bundleOf, headerOfDay}
 use Rattle.protocol.specs.Trace.{Trace, start, _then_calls_}
 use Rattle.calls.specs.declared.Announcement as Announcement
 use Rattle.calls.specs.declared.Receipt as Receipt
 use Rattle.calls.specs.Broadcast.{broadcast, announcementOf, announcementCount}
 use Rattle.calls.specs.Receive.{receive, reported, receiptOf, receiptCount}
-use Rattle.system.specs.Demand3.{Call, Open, Broadcast, Receive, System, config, buffer}
+use Rattle.system.specs.Demand3.{Call, Open, Broadcast, Receive, System, configAt, buffer}
 
--- "4 1 0 7"; nobody is faulty, and a record buffer has no zero byte before the opening
-unfoldable pub played : System
-played = record {
-  shared = record { n = 4; t = 1; d = 0; own = 0; day = 7 };
-  faulty = λ u. false;
-  buffers = λ u. replicate 2048 255;
+-- the play's configuration and its system: nobody is faulty, and a buffer of records has no zero byte before the opening
+unfoldable pub playConfig : Config
+playConfig = configFor 4 1 0 7
+
+unfoldable pub playSystem : System
+playSystem = record {
+  shared = playConfig;
+  faulty = λ node. false;
+  buffers = λ node. replicate (recordsSize playConfig) 255;
 }
 
--- "000102030405060708090a0b0c0d0e0f"
-unfoldable pub content : List ℕ
-content = 0 ∷ 1 ∷ 2 ∷ 3 ∷ 4 ∷ 5 ∷ 6 ∷ 7 ∷ 8 ∷ 9 ∷ 10 ∷ 11 ∷ 12 ∷ 13 ∷ 14 ∷ 15 ∷ []
+-- the payload of every step: 000102030405060708090a0b0c0d0e0f
+unfoldable pub playPayload : List ℕ
+playPayload = 0 ∷ 1 ∷ 2 ∷ 3 ∷ 4 ∷ 5 ∷ 6 ∷ 7 ∷ 8 ∷ 9 ∷ 10 ∷ 11 ∷ 12 ∷ 13 ∷ 14 ∷ 15 ∷ []
 
--- "Act A announces at a unit, B hands a bundle of the table's day to a unit." All steps of the play have this payload, and B's are in slot (0, 0).
-pub data Step : Type 0 where
-  A : Step
-  B : (signers : ℕ) → Step
+-- Act A broadcasts at a node. Act B gives a node a bundle of the day, which in the play is always of node 0's first slot.
+pub data PlayStep : Type 0 where
+  A : PlayStep
+  B : (signers : ℕ) → PlayStep
 
--- the outgoing bytes lent to a step
-abbrev pub lent : List ℕ
-lent = replicate size 0
+-- the outgoing bytes given with a step
+abbrev pub playOut : List ℕ
+playOut = replicate bundleSize 0
 
-unfoldable pub handed : ℕ → List ℕ
-handed signers = bundleOf 7 (record { sender = 0; seq = 0; signers = signers }) content
+unfoldable pub playBundle : (signers : ℕ) → List ℕ
+playBundle signers = bundleOf (headerOfDay playConfig 0 0 signers) playPayload
 
-abbrev pub callOf : Step → Call
-callOf A = Broadcast content lent
-callOf (B signers) = Receive (handed signers) lent
+abbrev pub playCall : (step : PlayStep) → Call
+playCall A = Broadcast playPayload playOut
+playCall (B signers) = Receive (playBundle signers) playOut
 
--- "the answer's word or "refused", the refusal or 0, and the count"
-pub data Word : Type 0 where
-  Announced Kept Signed Delivered Refused : Word
-  deriving Discrete as Word-discrete
+-- What is printed of an answer: its word, the number of the refusal or 0, and the count.
+pub data AnswerWord : Type 0 where
+  Announced Kept Signed Delivered Refused : AnswerWord
+  deriving Discrete as AnswerWord-discrete
 
-pub data Row : Type 0 where
-  row : (answer : Word) (reason count : ℕ) → Row
-  deriving Discrete as Row-discrete
+pub data PlayRow : Type 0 where
+  playRow : (answer : AnswerWord) (reason count : ℕ) → PlayRow
+  deriving Discrete as PlayRow-discrete
 
 -- the row of each answer; its count is the one that goes with the answer
-abbrev pub announcementRow : Announcement.Announcement → Row
-announcementRow (Announcement.the-variants.Announced seq) = row Announced 0 (announcementCount (Announcement.the-variants.Announced seq))
-announcementRow (Announcement.the-variants.Refused reason) = row Refused (numberOf reason) (announcementCount (Announcement.the-variants.Refused reason))
+abbrev pub announcementRow : Announcement.Announcement → PlayRow
+announcementRow (Announcement.the-variants.Announced seq) = playRow Announced 0 (announcementCount (Announcement.the-variants.Announced seq))
+announcementRow (Announcement.the-variants.Refused reason) = playRow Refused (numberOf reason) (announcementCount (Announcement.the-variants.Refused reason))
 
-abbrev pub receiptRow : Receipt.Receipt → Row
-receiptRow (Receipt.the-variants.Kept count) = row Kept 0 (receiptCount (Receipt.the-variants.Kept count))
-receiptRow (Receipt.the-variants.Signed count) = row Signed 0 (receiptCount (Receipt.the-variants.Signed count))
-receiptRow (Receipt.the-variants.Delivered count) = row Delivered 0 (receiptCount (Receipt.the-variants.Delivered count))
-receiptRow (Receipt.the-variants.Refused reason) = row Refused (numberOf reason) (receiptCount (Receipt.the-variants.Refused reason))
+abbrev pub receiptRow : Receipt.Receipt → PlayRow
+receiptRow (Receipt.the-variants.Kept count) = playRow Kept 0 (receiptCount (Receipt.the-variants.Kept count))
+receiptRow (Receipt.the-variants.Signed count) = playRow Signed 0 (receiptCount (Receipt.the-variants.Signed count))
+receiptRow (Receipt.the-variants.Delivered count) = playRow Delivered 0 (receiptCount (Receipt.the-variants.Delivered count))
+receiptRow (Receipt.the-variants.Refused reason) = playRow Refused (numberOf reason) (receiptCount (Receipt.the-variants.Refused reason))
 
--- a step with the node it is at and the row printed for it
-abbrev pub printed : ℕ → Step → Word → ℕ → ℕ → ℕ × Step × Row
-printed u step answer reason count = (u, step, row answer reason count)
+-- a step with its node and the row that is printed for it
+abbrev pub stepAt : (node : ℕ) (step : PlayStep) (answer : AnswerWord) (reason count : ℕ) → ℕ × PlayStep × PlayRow
+stepAt node step answer reason count = (node, step, playRow answer reason count)
 
 -- the paper's seven lines; the signers of line 6 lack the sender's bit
-unfoldable pub steps : List (ℕ × Step × Row)
-steps =
-    printed 0 A Announced 0 1
-    ∷ printed 1 (B 1) Signed 0 2
-    ∷ printed 1 (B 1) Kept 0 2
-    ∷ printed 2 (B 3) Delivered 0 3
-    ∷ printed 2 (B 7) Refused 22 0
-    ∷ printed 3 (B 2) Refused 8 0
-    ∷ printed 0 (B 7) Delivered 0 3
+unfoldable pub playSteps : List (ℕ × PlayStep × PlayRow)
+playSteps =
+    stepAt 0 A Announced 0 1
+    ∷ stepAt 1 (B 1) Signed 0 2
+    ∷ stepAt 1 (B 1) Kept 0 2
+    ∷ stepAt 2 (B 3) Delivered 0 3
+    ∷ stepAt 2 (B 7) Refused 22 0
+    ∷ stepAt 3 (B 2) Refused 8 0
+    ∷ stepAt 0 (B 7) Delivered 0 3
     ∷ []
 
--- a line: its place, the calls before it, the node, the step there and the row
-pub record Line : Type 0 where
-  pub place : ℕ
+-- a line: its ordinal, the calls before it, the node, the step there and the row
+pub record PlayLine : Type 0 where
+  pub ordinal : ℕ
   pub before : Trace Call
   pub node : ℕ
-  pub step : Step
-  pub row : Row
+  pub step : PlayStep
+  pub row : PlayRow
 
--- the steps as lines from a place on, each behind the calls before it
-unfoldable pub follow : ℕ → Trace Call → List (ℕ × Step × Row) → List Line
-follow place before [] = []
-follow place before (x ∷ rest) =
-    record { place = place; before = before; node = x .0; step = x .1; row = x .2 } ∷ follow (suc place) (before then x .0 calls callOf (x .1)) rest
+-- the steps as lines from an ordinal on, each with the calls before it
+unfoldable pub follow : (ordinal : ℕ) (before : Trace Call) (steps : List (ℕ × PlayStep × PlayRow)) → List PlayLine
+follow ordinal before [] = []
+follow ordinal before (x ∷ rest) =
+    record { ordinal = ordinal; before = before; node = x .0; step = x .1; row = x .2 } ∷ follow (suc ordinal) (before then x .0 calls playCall (x .1)) rest
 
--- "each opens the day first", and the place is counted from 1
-unfoldable pub lines : List Line
-lines = follow 1 (start then 0 calls Open then 1 calls Open then 2 calls Open then 3 calls Open) steps
+-- each node opens the day first, and the ordinal is counted from 1
+unfoldable pub playLines : List PlayLine
+playLines = follow 1 (start then 0 calls Open then 1 calls Open then 2 calls Open then 3 calls Open) playSteps
 
--- a step at node u, which finds the buffer `records`: every answer that the contract of its call allows has the row `shown`
-abbrev pub Shows : ℕ → Step → List ℕ → Row → Type 0
-Shows u A records shown = (a : Announcement.Announcement) → announcementOf a ≡ broadcast (config played u) content records lent → announcementRow a ≡ shown
-Shows u (B signers) records shown =
-    (a : Receipt.Receipt) → receiptOf a ≡ (receive (config played u) (handed signers) records lent and-then λ turn. done (reported turn))
+-- a step at a node that finds the buffer `records`: every answer that the contract of its call allows has the row `shown`
+abbrev pub Shows : (node : ℕ) (step : PlayStep) (records : List ℕ) (shown : PlayRow) → Type 0
+Shows node A records shown =
+    (a : Announcement.Announcement) → announcementOf a ≡ broadcast (configAt playSystem node) playPayload records playOut → announcementRow a ≡ shown
+Shows node (B signers) records shown =
+    (a : Receipt.Receipt) → receiptOf a ≡ (receive (configAt playSystem node) (playBundle signers) records playOut and-then λ result. done (reported result))
     → receiptRow a ≡ shown
 
 -- a line holds if its step, after the calls before it, shows the line's row
-abbrev pub Prints : Line → Type 0
-Prints l = Shows (l .node) (l .step) (buffer played (l .before) (l .node)) (l .row)
+abbrev pub Prints : PlayLine → Type 0
+Prints l = Shows (l .node) (l .step) (buffer playSystem (l .before) (l .node)) (l .row)
 
 -- Each of the seven lines holds. That there is an answer which the contract allows is part of the call's proof.
 abbrev pub LinesHold : Type 0
-LinesHold = (l : Line) → List·Memᴰ l lines → Prints l
+LinesHold = (l : PlayLine) → List·Memᴰ l playLines → Prints l

@@ -11,7 +11,7 @@ use lib.Dec.{eqb}
 use lib.ListN.{length, getD, take, drop, drop-of-length-le}
 use lib.Seq.{take-suc, drop-cons, take-length, length-take-le, split-at, take-at, drop-append-add}
 use borrow.Author.Tests.{eqb-true, eq-eqb, ne-eqb, lt-leb}
-use Rattle.text.specs.Text.{before, first, rest, space, only, digit, hexDigit, plain, hex, empty}
+use Rattle.text.specs.Text.{before, firstField, restAfterField, space, only, digit, hexDigit, plainNumber, hex, empty}
 
 -- ---- the first byte that is b
 
@@ -49,7 +49,7 @@ pub before-other : (b x : ℕ) (xs : List ℕ) → (x ≡ b → ⊥) → before 
 unfolding before
 before-other b x xs e = rw (ne-eqb x b e)
 
--- behind a text that has no b, it is where it was in what follows
+-- after a text that has no b, it is where it was in what follows
 pub before-over : (b : ℕ) (ys zs : List ℕ) → before b ys ≡ length ys → before b (ys ++ zs) ≡ length ys + before b zs
 unfolding before
 before-over b [] zs h = sym (zero-add (before b zs))
@@ -60,7 +60,7 @@ before-over b (y ∷ ys) zs h = go (eqb y b) h (before-over b ys zs)
     go true e below = absurd (omega arith)
     go false e below = ap suc (below (omega arith)) ∙ sym (suc-add (length ys) (before b zs))
 
--- so a b that is put behind such a text is the first,
+-- so a b that is put after such a text is the first,
 pub before-append : (b : ℕ) (ys zs : List ℕ) → before b ys ≡ length ys → before b (ys ++ (b ∷ zs)) ≡ length ys
 before-append b ys zs h =
     before-over b ys (b ∷ zs) h ∙ ap (λ (k : ℕ). length ys + k) (before-met b b zs refl) ∙ add-zero (length ys)
@@ -100,39 +100,39 @@ before-none b (x ∷ xs) = go (eqb x b) refl (before-none b xs)
 -- ---- cutting at the first space
 
 -- the text is its first field, a space and the rest, if it has a space
-pub join : (xs : List ℕ) → before space xs < length xs → xs ≡ first xs ++ (space ∷ rest xs)
-unfolding first rest
+pub join : (xs : List ℕ) → before space xs < length xs → xs ≡ firstField xs ++ (space ∷ restAfterField xs)
+unfolding firstField restAfterField
 join xs h =
     split-at xs (before space xs) 0 h
     ∙ ap (λ (b : ℕ). take (before space xs) xs ++ (b ∷ drop (suc (before space xs)) xs)) (before-here space xs h)
 
 -- and these are cut apart again where the first has no space
-pub cut-first : (ys zs : List ℕ) → before space ys ≡ length ys → first (ys ++ (space ∷ zs)) ≡ ys
-unfolding first
+pub cut-first : (ys zs : List ℕ) → before space ys ≡ length ys → firstField (ys ++ (space ∷ zs)) ≡ ys
+unfolding firstField
 cut-first ys zs h = take-at ys (space ∷ zs) (before space (ys ++ (space ∷ zs))) (sym (before-append space ys zs h))
 
-pub cut-rest : (ys zs : List ℕ) → before space ys ≡ length ys → rest (ys ++ (space ∷ zs)) ≡ zs
-unfolding rest
+pub cut-rest : (ys zs : List ℕ) → before space ys ≡ length ys → restAfterField (ys ++ (space ∷ zs)) ≡ zs
+unfolding restAfterField
 cut-rest ys zs h =
     ap (λ (k : ℕ). drop k (ys ++ (space ∷ zs))) (ap suc (before-append space ys zs h) ∙ sym (add-one (length ys)))
     ∙ drop-append-add ys (space ∷ zs) 1
 
 -- with no space the first field is the whole text, and there is no rest
-pub first-whole : (xs : List ℕ) → before space xs ≡ length xs → first xs ≡ xs
-unfolding first
+pub first-whole : (xs : List ℕ) → before space xs ≡ length xs → firstField xs ≡ xs
+unfolding firstField
 first-whole xs h = rw h (take-length xs)
 
-pub rest-none : (xs : List ℕ) → before space xs ≡ length xs → rest xs ≡ []
-unfolding rest
+pub rest-none : (xs : List ℕ) → before space xs ≡ length xs → restAfterField xs ≡ []
+unfolding restAfterField
 rest-none xs h = drop-of-length-le xs {i = suc (before space xs)} (omega arith)
 
 -- the first field ends where the first space stands, and has none itself
-pub first-length : (xs : List ℕ) → length (first xs) ≡ before space xs
-unfolding first
+pub first-length : (xs : List ℕ) → length (firstField xs) ≡ before space xs
+unfolding firstField
 first-length xs = length-take-le (before space xs) xs (before-le space xs)
 
-pub first-none : (xs : List ℕ) → before space (first xs) ≡ length (first xs)
-unfolding first
+pub first-none : (xs : List ℕ) → before space (firstField xs) ≡ length (firstField xs)
+unfolding firstField
 first-none xs = before-none space xs ∙ sym (first-length xs)
 
 -- ---- texts of bytes that pass a test
@@ -173,12 +173,12 @@ below-hexDigit : (b : ℕ) → b < 48 → hexDigit b ≡ false
 unfolding hexDigit
 below-hexDigit b h = rw (below-digit b h, lt-leb 97 b (omega arith))
 
-pub plain-only : (xs : List ℕ) → plain xs ≡ true → only digit xs ≡ true
-unfolding plain
+pub plain-only : (xs : List ℕ) → plainNumber xs ≡ true → only digit xs ≡ true
+unfolding plainNumber
 plain-only [] e = absurd (true≢false (sym e))
 plain-only (x ∷ xs) e = and-eq-true-iff (only digit (x ∷ xs)) (not (eqb x 48) || empty xs) .0 e .0
 
-pub plain-none : (b : ℕ) (xs : List ℕ) → b < 48 → plain xs ≡ true → before b xs ≡ length xs
+pub plain-none : (b : ℕ) (xs : List ℕ) → b < 48 → plainNumber xs ≡ true → before b xs ≡ length xs
 plain-none b xs h e = only-none digit b xs (below-digit b h) (plain-only xs e)
 
 -- or in hexadecimal digits

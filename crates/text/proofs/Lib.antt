@@ -1,6 +1,8 @@
 -- Laws of this crate that belong to no one function.
 pub mod Fields
-pub mod Values
-pub mod Written
-pub mod Wrote
-pub mod Spelled
+pub mod FieldPositions
+pub mod DigitValues
+pub mod HexWords
+pub mod WriteLaws
+pub mod WrittenTexts
+pub mod DecimalDigits

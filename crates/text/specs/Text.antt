@@ -41,21 +41,21 @@ unfoldable pub before : ℕ → List ℕ → ℕ
 before b [] = 0
 before b (x ∷ xs) = cond (eqb x b) 0 (suc (before b xs))
 
--- "Fields are separated by one space": the first field of a text, and what stands behind its space
-unfoldable pub first : List ℕ → List ℕ
-first xs = take (before space xs) xs
+-- "Fields are separated by one space": the first field of a text, and the text after it and its space
+unfoldable pub firstField : List ℕ → List ℕ
+firstField xs = take (before space xs) xs
 
-unfoldable pub rest : List ℕ → List ℕ
-rest xs = drop (suc (before space xs)) xs
+unfoldable pub restAfterField : List ℕ → List ℕ
+restAfterField xs = drop (suc (before space xs)) xs
 
--- what stands behind the first k fields
-unfoldable pub behind : ℕ → List ℕ → List ℕ
-behind zero xs = xs
-behind (suc k) xs = behind k (rest xs)
+-- the text after its first k fields
+unfoldable pub afterFields : ℕ → List ℕ → List ℕ
+afterFields zero xs = xs
+afterFields (suc k) xs = restAfterField (afterFields k xs)
 
--- the field behind the first k
+-- field number k, counted from 0
 abbrev pub field : ℕ → List ℕ → List ℕ
-field k xs = first (behind k xs)
+field k xs = firstField (afterFields k xs)
 
 -- ---- numbers
 
@@ -71,31 +71,34 @@ digit b = leb 48 b && leb b 57
 unfoldable pub hexDigit : ℕ → Bool
 hexDigit b = digit b || (leb 97 b && leb b 102)
 
--- what such a digit stands for
-unfoldable pub worth : ℕ → ℕ
-worth b = cond (leb b 57) (b - 48) (b - 87)
+-- the value of such a digit
+unfoldable pub digitValue : ℕ → ℕ
+digitValue b = cond (leb b 57) (b - 48) (b - 87)
 
--- the number that digits write behind a number that is there already
-unfoldable pub value : ℕ → ℕ → List ℕ → ℕ
-value base there [] = there
-value base there (x ∷ xs) = value base (there * base + worth x) xs
+-- the number that digits write, after leading digits that write `leading`
+unfoldable pub value : (base leading : ℕ) (text : List ℕ) → ℕ
+value base leading [] = leading
+value base leading (x ∷ xs) = value base (leading * base + digitValue x) xs
 
 unfoldable pub empty : List ℕ → Bool
 empty [] = true
 empty (x ∷ xs) = false
 
 -- "plain numbers are decimal, without sign or leading zeros"
-unfoldable pub plain : List ℕ → Bool
-plain [] = false
-plain (x ∷ xs) = only digit (x ∷ xs) && (not (eqb x 48) || empty xs)
+unfoldable pub plainNumber : List ℕ → Bool
+plainNumber [] = false
+plainNumber (x ∷ xs) = only digit (x ∷ xs) && (not (eqb x 48) || empty xs)
 
--- a plain number that fits
-unfoldable pub plainUpTo : ℕ → List ℕ → Bool
-plainUpTo limit xs = plain xs && leb (value 10 0 xs) limit
+-- a plain number of at most a limit
+unfoldable pub plainUpTo : (limit : ℕ) (text : List ℕ) → Bool
+plainUpTo limit xs = plainNumber xs && leb (value 10 0 xs) limit
 
--- the first field as a plain number up to a limit, with how many bytes it has
-unfoldable pub numberIn : ℕ → List ℕ → Number
-numberIn limit xs = cond (plainUpTo limit (first xs)) (Plain (value 10 0 (first xs)) (length (first xs))) NotPlain
+-- the field that starts at an index of a text, read as a plain number of at most a limit: its value, and the index at which the next field starts
+unfoldable pub numberAt : (limit : ℕ) (text : List ℕ) (at : ℕ) → Number
+numberAt limit text at =
+    cond (plainUpTo limit (firstField (drop at text)))
+    (Plain (value 10 0 (firstField (drop at text))) (at + length (firstField (drop at text)) + 1))
+    NotPlain
 
 -- so many lowercase hexadecimal digits, and no more
 unfoldable pub hex : ℕ → List ℕ → Bool
@@ -115,12 +118,12 @@ spelled (suc k) x = cond (ltb x 10) ((48 + x) ∷ []) (spelled k (x / 10) ++ ((4
 unfoldable pub decimal : ℕ → List ℕ
 decimal x = spelled 20 x
 
--- a text written over a buffer from index `at` on, if there is room for the whole of it, and where it ends then
-unfoldable pub fits : ℕ → List ℕ → List ℕ → Bool
-fits at text out = leb (at + length text) (length out)
+-- a text written over a buffer from index `at` on, if the buffer has room for the whole of it there, and where it ends then
+unfoldable pub hasRoom : (at : ℕ) (text out : List ℕ) → Bool
+hasRoom at text out = leb (at + length text) (length out)
 
-unfoldable pub written : ℕ → List ℕ → List ℕ → List ℕ
-written at text out = cond (fits at text out) (take at out ++ (text ++ drop (at + length text) out)) out
+unfoldable pub written : (at : ℕ) (text out : List ℕ) → List ℕ
+written at text out = cond (hasRoom at text out) (take at out ++ (text ++ drop (at + length text) out)) out
 
-unfoldable pub end : ℕ → List ℕ → List ℕ → ℕ
-end at text out = cond (fits at text out) (at + length text) at
+unfoldable pub end : (at : ℕ) (text out : List ℕ) → ℕ
+end at text out = cond (hasRoom at text out) (at + length text) at

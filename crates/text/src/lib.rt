@@ -10,9 +10,9 @@ ghost use mathlib.Core.List.{_++_};
 ghost use Prim.Native.Nat.{_+_, _≤_};
 ghost use lib.ListN.{length, take, drop};
 ghost use Rattle.octets.specs.Octets.{same as sameBytes};
-ghost use Rattle.text.specs.Text.{before, numberIn, wordIn, decimal as decimalOf, written, end as endOf};
+ghost use Rattle.text.specs.Text.{before, numberAt, wordIn, decimal as decimalOf, written, end as endOf};
 
-// A field read as a plain number, with how many bytes it has.
+// A field that was read as a plain number: its value, and the index at which the next field starts.
 pub enum Number {
     Plain(u32, usize),
     NotPlain,
@@ -55,9 +55,22 @@ pub fn same(a: &[u8], b: &[u8]) -> bool
     true
 }
 
-// The first field as a plain number of at most `limit`.
-pub fn plain(limit: u32, text: &[u8]) -> Number
-    ensures { λ r. ⌜ r ≡ numberIn limit (now (text .entry)) ⌝ }
+// The plain number of at most `limit` that starts at index `at` of the text.
+pub fn number_at(limit: u32, text: &[u8], at: usize) -> Number
+    ensures { λ r. ⌜ r ≡ numberAt limit (now (text .entry)) at ⌝ }
+{
+    if text.len() < at {
+        return Number::NotPlain;
+    }
+    let Number::Plain(value, next) = first_number(limit, &text[at..]) else {
+        return Number::NotPlain;
+    };
+    Number::Plain(value, at + next)
+}
+
+// The same at the start of the text.
+fn first_number(limit: u32, text: &[u8]) -> Number
+    ensures { λ r. ⌜ r ≡ numberAt limit (now (text .entry)) 0 ⌝ }
 {
     let mut value: u64 = 0;
     let mut i = 0;
@@ -86,7 +99,7 @@ pub fn plain(limit: u32, text: &[u8]) -> Number
             return Number::NotPlain;
         }
     }
-    Number::Plain(value as u32, i)
+    Number::Plain(value as u32, i + 1)
 }
 
 // Sixteen lowercase hexadecimal digits as a word.

@@ -11,6 +11,8 @@ use Rattle.bundle.specs.Bundle.{headerReasons}
 use borrow.Author.Needs.{needs}
 use Rattle.bundle.proofs.check.Statement.{statement}
 use Rattle.bundle.proofs.check.Tie as tie
+use Rattle.config.proofs.Config.mask.Reads as mask-reads
+use Rattle.signers.proofs.member.Reads as member-reads
 
 -- ---- the places on the way, each from a later one, and what is known there
 
@@ -38,6 +40,18 @@ signers-known c = within-mask _ _ (given (c .before) .pre) (rw (c .before .befor
 
 -- ---- the needs
 
+turned : (b : Bool) → _≡_ {A = Outcome Unit} (cond (not b) (refused 8) (done tt)) (cond b (done tt) (refused 8))
+turned true = refl
+turned false = refl
+
+-- the last two returns differ in what `member` answered
+last-test : (c : tie.After-member) (b : Bool) → c .member .result ≡ b
+    → unless {A = Unit} (headerReasons (given (c .before .before) .args .config) (given (c .before .before) .args .header)) tt ≡ cond b (done tt) (refused 8)
+unfolding headerReasons unless
+last-test c b e =
+    simp (sender-known (sender-passed (seq-passed (c .before .before))), seq-known (seq-passed (c .before .before)), signers-known (c .before), sym (c .member .ensures) ∙ e)
+    (turned b)
+
 returns : tie.Need-returns
 unfolding headerReasons unless
 returns c = simp (le-ltb _ _ (c .if1 .taken))
@@ -60,18 +74,6 @@ returns-3 c =
 
 member-requires : tie.Need-member-requires
 member-requires c κs = search needs
-
-turned : (b : Bool) → _≡_ {A = Outcome Unit} (cond (not b) (refused 8) (done tt)) (cond b (done tt) (refused 8))
-turned true = refl
-turned false = refl
-
--- the last two returns differ in what `member` answered
-last-test : (c : tie.After-member) (b : Bool) → c .member .result ≡ b
-    → unless {A = Unit} (headerReasons (given (c .before .before) .args .config) (given (c .before .before) .args .header)) tt ≡ cond b (done tt) (refused 8)
-unfolding headerReasons unless
-last-test c b e =
-    simp (sender-known (sender-passed (seq-passed (c .before .before))), seq-known (seq-passed (c .before .before)), signers-known (c .before), sym (c .member .ensures) ∙ e)
-    (turned b)
 
 returns-4 : tie.Need-returns-4
 returns-4 c = sym (last-test (c .before) false (not-true _ (c .if4 .taken)))

@@ -5,27 +5,34 @@ use Rattle.bundle.proofs.Fields.{filled-encoded}
 use borrow.Author.Needs.{needs}
 use Rattle.bundle.proofs.encode.Statement.{statement}
 use Rattle.bundle.proofs.encode.Tie as tie
+use Rattle.octets.proofs.fill.Reads as fill-reads
 
-mul-slot : tie.Need-mul-slot
-mul-slot c = search needs
+abbrev entry : tie.After-fill → tie.Start
+entry c = c .before .before .before .before .before .before
 
-cast-slot : tie.Need-cast-slot
-cast-slot c = search needs
+cast-first : tie.Need-cast-first
+cast-first c = search needs
 
-mul-slot-2 : tie.Need-mul-slot-2
-mul-slot-2 c = search needs
+mul-first : tie.Need-mul-first
+mul-first c = search needs
 
-add-slot : tie.Need-add-slot
-add-slot c = search needs
+cast-first-2 : tie.Need-cast-first-2
+cast-first-2 c = search needs
 
-cast-slot-2 : tie.Need-cast-slot-2
-cast-slot-2 c = search needs
+mul-first-2 : tie.Need-mul-first-2
+mul-first-2 c = search needs
 
-mul-slot-3 : tie.Need-mul-slot-3
-mul-slot-3 c = search needs
+add-first : tie.Need-add-first
+add-first c = search needs
 
-add-slot-2 : tie.Need-add-slot-2
-add-slot-2 c = search needs
+cast-first-3 : tie.Need-cast-first-3
+cast-first-3 c = search needs
+
+mul-first-3 : tie.Need-mul-first-3
+mul-first-3 c = search needs
+
+add-first-2 : tie.Need-add-first-2
+add-first-2 c = search needs
 
 fill-requires : tie.Need-fill-requires
 fill-requires c κs = search needs
@@ -34,21 +41,25 @@ same-length : tie.Need-same-length
 same-length c = search needs
 
 returns : tie.Need-returns
-returns c = let sender : c .before .before .before .before .before .before .before .args .header .sender < 256 = omega arith in
-    let seq : c .before .before .before .before .before .before .before .args .header .seq < 256 = omega arith in
-    filled-encoded (c .before .before .before .before .before .before .before .args .day) (c .before .before .before .before .before .before .before .args .header) _ _ _ _ _ (c .before .before .fill .ensures) (omega arith) sender seq
+returns c =
+    let filled = c .before .before in
+    let a = entry filled .args in
+    let sender : a .header .sender < 256 = omega arith in
+    let seq : a .header .seq < 256 = omega arith in
+    filled-encoded (a .header) (a .payload) _ _ _ (filled .fill .ensures) (omega arith) sender seq
 
 pub encode-spec : {M : Type 1} → statement M
 encode-spec =
     tie.close
     (tie.spec
-    mul-slot
-    cast-slot
-    mul-slot-2
-    add-slot
-    cast-slot-2
-    mul-slot-3
-    add-slot-2
+    cast-first
+    mul-first
+    cast-first-2
+    mul-first-2
+    add-first
+    cast-first-3
+    mul-first-3
+    add-first-2
     fill-requires
     same-length
     returns)

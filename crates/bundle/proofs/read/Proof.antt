@@ -2,7 +2,7 @@
 -- Assumes nothing.
 use mathlib.Core.Bool.{true, _&&_}
 use mathlib.Core.List.{List}
-use mathlib.Core.Path.{_≡_, sym, ap, _∙_}
+use mathlib.Core.Path.{_≡_, sym, ap, ap₂, _∙_}
 use Prim.Native.Nat.{ℕ, _/_}
 use borrow.Author.Needs.{needs}
 use borrow.Author.Tests.{eq-eqb, ne-eqb, not-true, not-false}
@@ -15,10 +15,13 @@ use Rattle.refusal.proofs.Reasons.{done-again, refused-again}
 use Rattle.config.specs.declared.Config.{Config}
 use Rattle.config.specs.Config.{good}
 use Rattle.bundle.specs.declared.Header.{Header}
-use Rattle.bundle.specs.Bundle.{size, dayOf, headerOf, headerReasons, readReasons, read}
+use Rattle.bundle.specs.Bundle.{bundleSize, slotIn, headerIn, headerReasons, readReasons, read}
 use Rattle.bundle.proofs.Fields.{slot-day, reserved-zero, reserved-set, signers-word}
 use Rattle.bundle.proofs.read.Statement.{statement}
 use Rattle.bundle.proofs.read.Tie as tie
+use Rattle.bundle.proofs.check.Reads as check-reads
+use Rattle.config.proofs.Config.good.Reads as good-reads
+use Rattle.octets.proofs.word.Reads as word-reads
 
 -- ---- what is known where the first two tests have passed
 
@@ -31,13 +34,13 @@ bundle c = c .before .before .before .before .args .bundle .now
 good-known : (c : tie.Else1) → good (c .before .before .before .args .config) ≡ true
 good-known c = sym (c .before .good2 .ensures) ∙ not-false _ (c .if1 .left)
 
-length-known : (c : tie.Else2) → eqb (length (bundle c)) size ≡ true
+length-known : (c : tie.Else2) → eqb (length (bundle c)) bundleSize ≡ true
 length-known c = eq-eqb _ _ (c .if2 .left)
 
 bytes-known : (c : tie.Else2) → Bytes (bundle c)
 bytes-known c i = c .before .before .before .shared-slice-known .given i .fits
 
--- ---- and behind the first word
+-- ---- and after the first word
 
 abbrev sized : tie.After-word → tie.Else2
 sized c = c .before .before
@@ -45,7 +48,7 @@ sized c = c .before .before
 abbrev slot : tie.Else3 → tie.After-word
 slot c = c .before
 
-day-known : (c : tie.After-word) → c .word .result / 0x1_0000_0000 ≡ dayOf (bundle (sized c))
+day-known : (c : tie.After-word) → c .word .result / 0x1_0000_0000 ≡ slotIn (bundle (sized c)) .day
 day-known c = ap (λ (x : ℕ). x / 0x1_0000_0000) (c .word .ensures) ∙ slot-day _ (sized c .if2 .left) (bytes-known (sized c))
 
 reserved-known : (c : tie.Else3) → (eqb (getD (bundle (sized (slot c))) 6 0) 0 && eqb (getD (bundle (sized (slot c))) 7 0) 0) ≡ true
@@ -60,21 +63,30 @@ dated c = c .before .before .before .before .before
 abbrev entered : tie.After-check → tie.Else2
 entered c = sized (slot (dated c .before .before))
 
--- what `check` is handed
-abbrev header : tie.After-check → Header
-header c = record { sender = getD (bundle (entered c)) 4 0; seq = getD (bundle (entered c)) 5 0; signers = c .before .word2 .result }
+day-same : (c : tie.After-check) → slotIn (bundle (entered c)) .day ≡ config (entered c) .day
+day-same c = sym (day-known (slot (dated c .before .before))) ∙ dated c .if4 .left
 
-header-known : (c : tie.After-check) → header c ≡ headerOf (bundle (entered c))
-unfolding headerOf
+-- what `check` is given
+abbrev header : tie.After-check → Header
+header c =
+    record {
+      day = config (entered c) .day;
+      sender = getD (bundle (entered c)) 4 0;
+      seq = getD (bundle (entered c)) 5 0;
+      signers = c .before .word2 .result;
+    }
+
+header-known : (c : tie.After-check) → header c ≡ headerIn (bundle (entered c))
+unfolding headerIn slotIn
 header-known c =
-    ap {B = Header} (λ (g : ℕ). record { sender = header c .sender; seq = header c .seq; signers = g })
-    (c .before .word2 .ensures ∙ signers-word (bundle (entered c)) (entered c .if2 .left))
+    ap₂ {C = Header} (λ (d g : ℕ). record { day = d; sender = header c .sender; seq = header c .seq; signers = g })
+    (sym (day-same c)) (c .before .word2 .ensures ∙ signers-word (bundle (entered c)) (entered c .if2 .left))
 
 -- with the first four tests passed, the reasons left are those of the header
 header-decides : (c : tie.After-check) → read (config (entered c)) (bundle (entered c)) ≡ unless (headerReasons (config (entered c)) (header c)) (header c)
 unfolding read readReasons unless
 header-decides c =
-    simp (good-known (entered c .before), length-known (entered c), reserved-known (dated c .before .before), eq-eqb _ _ (sym (day-known (slot (dated c .before .before))) ∙ dated c .if4 .left), ← header-known c)
+    simp (good-known (entered c .before), length-known (entered c), reserved-known (dated c .before .before), eq-eqb _ _ (day-same c), ← header-known c)
 
 -- ---- the needs
 
@@ -133,7 +145,9 @@ word-requires-2 : tie.Need-word-requires-2
 word-requires-2 c κs = search needs
 
 check-requires : tie.Need-check-requires
-check-requires c κs = good-known (c .before .before .before .before .before .before .before .before .before .before)
+check-requires c κs =
+    let called = c .before .before .before .before in
+    good-known (sized (slot (called .before .before)) .before)
 
 enum-told : tie.Need-enum-told
 enum-told c = search needs

@@ -1,67 +1,80 @@
 -- `write` meets its contract: each refusal follows from the tests passed before it, and the bytes written are the bundle's.
 -- Assumes nothing.
 use mathlib.Core.Bool.{true}
-use mathlib.Core.List.{_++_}
 use mathlib.Core.Path.{_≡_, sym, ap, ap₂, _∙_}
-use Prim.Native.Nat.{ℕ}
 use borrow.Author.Tests.{eq-eqb, not-true, not-false}
-use Rattle.octets.specs.Octets.{bytesOf}
+use Rattle.payload.specs.Payload.{bytes}
 use Rattle.refusal.specs.Outcome.{done, unless}
 use Rattle.refusal.specs.Refusal.{verdictOf}
 use Rattle.refusal.proofs.Reasons.{no-effect, done-clear}
-use Rattle.config.specs.Config.{good}
-use Rattle.bundle.specs.Bundle.{headerReasons, bundleOf, write, encoded}
-use Rattle.bundle.proofs.Fields.{payload-words}
+use Rattle.config.specs.Config.{good, slotOfDay}
+use Rattle.bundle.specs.declared.Header.{Header}
+use Rattle.bundle.specs.Bundle.{headerReasons, bundleOf, headerOfDay, write, encoded}
+use Rattle.bundle.proofs.Fields.{payload-loaded}
 use Rattle.bundle.proofs.Accepted.{writable-written, write-unconfigured, write-header, write-payload, write-out}
 use borrow.Author.Needs.{needs}
 use Rattle.bundle.proofs.write.Statement.{statement}
 use Rattle.bundle.proofs.write.Tie as tie
+use Rattle.bundle.proofs.check.Reads as check-reads
+use Rattle.bundle.proofs.encode.Reads as encode-reads
+use Rattle.config.proofs.Config.good.Reads as good-reads
+use Rattle.payload.proofs.load.Reads as load-reads
 
 -- ---- the places on the way, each from a later one, and what is known there
 
 abbrev entry : tie.Else1 → tie.Start
 entry c = c .before .before .before .before
 
-abbrev configured : tie.After-enum-told → tie.Else1
-configured c = c .before .before .before
+abbrev configured : tie.After-check → tie.Else1
+configured c = c .before
 
 abbrev fine : tie.Else3 → tie.After-enum-told
 fine c = c .before .before
 
-abbrev measured : tie.After-word2 → tie.Else3
-measured c = c .before .before .before .before
+abbrev checked : tie.After-enum-told → tie.After-check
+checked c = c .before .before
 
 good-known : (c : tie.Else1) → good (entry c .args .config) ≡ true
 good-known c = sym (c .before .good2 .ensures) ∙ not-false _ (c .if1 .left)
 
-fine-known : (c : tie.After-enum-told) → unless {A = Unit} (headerReasons (entry (configured c) .args .config) (entry (configured c) .args .header)) tt ≡ done tt
-fine-known c = sym (c .before .before .check .ensures) ∙ ap verdictOf (c .enum-told .given .1)
+-- what is checked is the header of the day
+module _ (c : tie.After-check) where
+  abbrev given : tie.Start
+  given = entry (configured c)
+
+  abbrev header : Header
+  header = headerOfDay (given .args .config) (given .args .sender) (given .args .seq) (given .args .signers)
+
+  check-known : verdictOf (c .check .result) ≡ unless {A = Unit} (headerReasons (given .args .config) header) tt
+  unfolding slotOfDay
+  check-known = c .check .ensures
+
+fine-known : (c : tie.After-enum-told) → unless {A = Unit} (headerReasons (given (checked c) .args .config) (header (checked c))) tt ≡ done tt
+fine-known c = sym (check-known (checked c)) ∙ ap verdictOf (c .enum-told .given .1)
 
 module _ (c : tie.Else3) where
-  abbrev given : tie.Start
-  given = entry (configured (fine c))
+  abbrev asked : tie.After-check
+  asked = checked (fine c)
 
-  written : write (given .args .config) (given .args .header) (given .args .payload .now) (given .args .out .now)
-      ≡ done (bundleOf (given .args .config .day) (given .args .header) (given .args .payload .now))
+  written : write (given asked .args .config) (given asked .args .sender) (given asked .args .seq) (given asked .args .signers) (given asked .args .payload .now) (given asked .args .out .now)
+      ≡ done (bundleOf (header asked) (given asked .args .payload .now))
   written =
-      writable-written _ _ _ _
+      writable-written _ _ _ _ _ _
       (record {
-        configured = good-known (configured (fine c));
+        configured = good-known (configured asked);
         clear = done-clear _ _ _ (fine-known (fine c)) .0;
         whole = c .before .if2 .left;
         room = c .if3 .left;
       })
 
 -- what `encode` leaves is the bundle
-encoded-known : (c : tie.After-word2)
-    → encoded (given (measured c) .args .config .day) (given (measured c) .args .header) (bytesOf 8 (c .before .before .word .result) ++ bytesOf 8 (c .word2 .result)) (given (measured c) .args .out .now)
-    ≡ bundleOf (given (measured c) .args .config .day) (given (measured c) .args .header) (given (measured c) .args .payload .now)
+encoded-known : (c : tie.After-load)
+    → encoded (header (asked (c .before))) (bytes (c .load .result)) (given (asked (c .before)) .args .out .now)
+    ≡ bundleOf (header (asked (c .before))) (given (asked (c .before)) .args .payload .now)
 unfolding encoded
 encoded-known c =
-    rw (eq-eqb _ _ (measured c .if3 .left))
-    (ap (bundleOf (given (measured c) .args .config .day) (given (measured c) .args .header))
-    (ap₂ (λ (x y : ℕ). bytesOf 8 x ++ bytesOf 8 y) (c .before .before .word .ensures) (c .word2 .ensures)
-    ∙ payload-words _ (measured c .before .if2 .left) (λ i. c .before .before .before .before .before .before .before .before .before .before .before .before .shared-slice-known .given i .fits)))
+    rw (eq-eqb _ _ (c .before .if3 .left))
+    (ap (bundleOf (header (asked (c .before)))) (c .load .ensures ∙ payload-loaded _ (c .before .before .if2 .left)))
 
 -- ---- the needs
 
@@ -69,7 +82,7 @@ good-requires : tie.Need-good-requires
 good-requires c κs = search needs
 
 returns : tie.Need-returns
-returns c = no-effect _ _ _ _ (write-unconfigured _ _ _ _ (sym (c .before .good2 .ensures) ∙ not-true _ (c .if1 .taken)))
+returns c = no-effect _ _ _ _ (write-unconfigured _ _ _ _ _ _ (sym (c .before .good2 .ensures) ∙ not-true _ (c .if1 .taken)))
 
 check-requires : tie.Need-check-requires
 check-requires c κs = good-known c
@@ -78,40 +91,19 @@ enum-known-checked : tie.Need-enum-known-checked
 enum-known-checked c = search needs
 
 returns-2 : tie.Need-returns-2
-returns-2 c = no-effect _ _ _ _ (write-header _ _ _ _ _ (good-known (c .before .before .before .before)) (sym (c .before .before .before .check .ensures) ∙ ap verdictOf (c .before .checked .given .1)))
+returns-2 c = no-effect _ _ _ _ (write-header _ _ _ _ _ _ _ (good-known (configured (c .before .before .before))) (sym (check-known (c .before .before .before)) ∙ ap verdictOf (c .before .checked .given .1)))
 
 enum-told : tie.Need-enum-told
 enum-told c = search needs
 
 returns-3 : tie.Need-returns-3
-returns-3 c = no-effect _ _ _ _ (write-payload _ _ _ _ (good-known (configured (c .before))) (fine-known (c .before)) (c .if2 .taken))
+returns-3 c = no-effect _ _ _ _ (write-payload _ _ _ _ _ _ (good-known (configured (checked (c .before)))) (fine-known (c .before)) (c .if2 .taken))
 
 returns-4 : tie.Need-returns-4
-returns-4 c = no-effect _ _ _ _ (write-out _ _ _ _ (good-known (configured (c .before .before))) (fine-known (c .before .before)) (c .before .if2 .left) (c .if3 .taken))
+returns-4 c = no-effect _ _ _ _ (write-out _ _ _ _ _ _ (good-known (configured (checked (c .before .before)))) (fine-known (c .before .before)) (c .before .if2 .left) (c .if3 .taken))
 
-sub-word : tie.Need-sub-word
-sub-word c = search needs
-
-part-word-start : tie.Need-part-word-start
-part-word-start c = search needs
-
-part-word-end : tie.Need-part-word-end
-part-word-end c = search needs
-
-word-requires : tie.Need-word-requires
-word-requires c κs = search needs
-
-sub-word-2 : tie.Need-sub-word-2
-sub-word-2 c = search needs
-
-part-word-start-2 : tie.Need-part-word-start-2
-part-word-start-2 c = search needs
-
-part-word-end-2 : tie.Need-part-word-end-2
-part-word-end-2 c = search needs
-
-word-requires-2 : tie.Need-word-requires-2
-word-requires-2 c κs = search needs
+load-requires : tie.Need-load-requires
+load-requires c κs = search needs
 
 encode-requires : tie.Need-encode-requires
 encode-requires c κs = search needs
@@ -120,7 +112,11 @@ same-length : tie.Need-same-length
 same-length c = search needs
 
 returns-5 : tie.Need-returns-5
-returns-5 c = (rw (written (measured (c .before .before .before .before))), rw (written (measured (c .before .before .before .before))) (c .before .before .encode .ensures ∙ encoded-known (c .before .before .before .before)))
+unfolding slotOfDay
+returns-5 c =
+    let left = c .before .before in
+    let loaded = left .before .before in
+    (rw (written (loaded .before)), rw (written (loaded .before)) (left .encode .ensures ∙ encoded-known loaded))
 
 pub write-spec : {M : Type 1} → statement M
 write-spec =
@@ -134,14 +130,7 @@ write-spec =
     enum-told
     returns-3
     returns-4
-    sub-word
-    part-word-start
-    part-word-end
-    word-requires
-    sub-word-2
-    part-word-start-2
-    part-word-end-2
-    word-requires-2
+    load-requires
     encode-requires
     same-length
     returns-5)

@@ -1,122 +1,165 @@
 -- `broadcast` meets its contract: each refusal follows from the tests passed before it, and the record and the bundle are the announcement's.
 -- Assumes nothing.
+use mathlib.Core.Path.{_≡_, refl, sym, ap, ap₂, _∙_}
 use mathlib.Core.Bool.{true}
 use mathlib.Core.List.{List}
-use mathlib.Core.Path.{_≡_, sym, ap₂, _∙_}
 use Prim.Native.Nat.{ℕ, _+_, _*_, _≤_, _<_}
 use native.Mathlib.Omega.{arith}
+use lib.Dec.{lit<}
 use lib.ListN.{length}
+use borrow.Author.Needs.{needs}
 use borrow.Author.Tests.{not-true, not-false}
-use Rattle.signers.specs.Signers.{insert}
 use Rattle.refusal.specs.Outcome.{done}
 use Rattle.config.specs.declared.Config.{Config}
-use Rattle.config.specs.Config.{good, slots, inRange, recordSize, recordsSize}
-use Rattle.config.proofs.Laws.{good-says}
-use Rattle.bundle.specs.Bundle.{bundleOf}
-use Rattle.bundle.proofs.Fields.{payload-words}
-use Rattle.protocol.specs.Slot.{announcedBy, Held}
-use Rattle.record.specs.declared.Record.{Record}
-use Rattle.record.specs.Record.{image, bytes}
-use Rattle.record.proofs.Words as words
-use Rattle.calls.specs.Records.{replaced}
+use Rattle.config.specs.declared.Slot.{Slot}
+use Rattle.config.specs.Config.{good, quorum, slots, slotOfDay, inRange, slotPlace, place, recordSize, recordsSize}
+use Rattle.config.proofs.Laws.{good-says, place-slot, records-fit}
+use Rattle.bundle.specs.Bundle.{bundleOf, headerOf}
+use Rattle.bundle.proofs.Fields.{payload-loaded}
+use Rattle.protocol.specs.Update.{Held, announcedBy}
+use Rattle.protocol.proofs.WellFormed.{WellFormed, announced-well-formed}
+use Rattle.record.specs.Record.{bytes, encoding, signersField, payloadField}
+use Rattle.record.proofs.Encoding.{encoding-fields}
+use Rattle.calls.specs.Records.{ownSlot, replaced, stored}
 use Rattle.calls.specs.Broadcast.{broadcast, announcedHeader}
-use Rattle.calls.specs.Settled.{sent, foundOf}
-use Rattle.calls.proofs.Room.{in-range, records-fit, offset-room, offset-stored, own-room}
-use Rattle.calls.proofs.Found.{scanned-own, found-number, found-none, found-malformed}
+use Rattle.calls.specs.Inner.{foundOf, sent}
+use Rattle.calls.proofs.RecordBounds.{own-range, own-room, own-place}
+use Rattle.calls.proofs.Records.{place-fits}
 use Rattle.calls.proofs.Refusals.{broadcast-no-effect, broadcast-effect, broadcast-bad, broadcast-payload, broadcast-out, broadcast-size, broadcast-searched}
-use borrow.Author.Needs.{needs}
+use Rattle.calls.proofs.LowestFree.{found-number, found-none, found-malformed, scanned-own}
 use Rattle.calls.proofs.broadcast.Statement.{statement}
 use Rattle.calls.proofs.broadcast.Tie as tie
-use Rattle.calls.proofs.put.Reads as put-reads
-use Rattle.calls.proofs.search.Reads as search-reads
-use Rattle.calls.proofs.send.Reads as send-reads
-use Rattle.config.proofs.Config.good.Reads as good-reads
-use Rattle.config.proofs.Config.quorum.Reads as quorum-reads
-use Rattle.config.proofs.Config.records_size.Reads as records-size-reads
-use Rattle.config.proofs.offset.Reads as offset-reads
-use Rattle.octets.proofs.word.Reads as word-reads
-use Rattle.signers.proofs.below.Reads as below-reads
-use Rattle.signers.proofs.insert.Reads as insert-reads
 
 -- ---- the places on the way, each from a later one, and what is known there
 
-abbrev start : tie.Else1 → tie.Start
-start c = c .before .before .before .before .before
+abbrev entry : tie.Else1 → tie.Start
+entry c = c .before .before .before .before .before
 
-abbrev configured : tie.Else4 → tie.Else1
-configured c = c .before .before .before .before
+abbrev configured : tie.Else3 → tie.Else1
+configured c = c .before .before
 
-abbrev config : tie.Else4 → Config
-config c = start (configured c) .args .config
+abbrev sized : tie.After-place → tie.Else4
+sized c = c .before .before .before
 
-abbrev content : tie.Else4 → List ℕ
-content c = start (configured c) .args .payload .now
+abbrev placed : tie.After-quorum → tie.After-place
+placed c = c .before .before
 
-abbrev records : tie.Else4 → List ℕ
-records c = start (configured c) .args .records .now
+abbrev ready : tie.After-search → tie.After-quorum
+ready c = c .before .before .before
 
-abbrev out : tie.Else4 → List ℕ
-out c = start (configured c) .args .out .now
-
-good-known : (c : tie.Else1) → good (start c .args .config) ≡ true
+good-known : (c : tie.Else1) → good (entry c .args .config) ≡ true
 good-known c = sym (c .before .good2 .ensures) ∙ not-false _ (c .if1 .left)
 
-long-known : (c : tie.Else4) → length (records c) ≡ recordsSize (config c)
-long-known c = c .if4 .left ∙ c .before .records-size .ensures
+module _ (c : tie.Else4) where
+  abbrev lengths : tie.Else3
+  lengths = c .before .before
+
+  abbrev given : tie.Start
+  given = entry (configured lengths)
+
+  abbrev config : Config
+  config = given .args .config
+
+  abbrev payload : List ℕ
+  payload = given .args .payload .now
+
+  abbrev records : List ℕ
+  records = given .args .records .now
+
+  abbrev out : List ℕ
+  out = given .args .out .now
+
+  good-there : good config ≡ true
+  good-there = good-known (configured lengths)
+
+  long-known : length records ≡ recordsSize config
+  long-known = c .if4 .left ∙ c .before .records-size .ensures
 
 -- our sixteen records lie within the buffer
-room : (c : tie.After-quorum) → c .before .before .offset .result + recordSize * slots ≤ length (records (c .before .before .before .before))
-room c = rw (c .before .before .offset .ensures) (own-room _ (records (c .before .before .before .before)) (good-known (configured (c .before .before .before .before))) (long-known (c .before .before .before .before)))
+first-known : (c : tie.After-place) → c .place .result ≡ place (config (sized c)) (ownSlot (config (sized c)) 0)
+first-known c =
+    c .place .ensures
+    ∙ ap slotPlace (c .before .slot-of-day .ensures)
+    ∙ sym (place-slot (config (sized c)) (ownSlot (config (sized c)) 0) (good-there (sized c)) (own-range (config (sized c)) 0 (good-there (sized c)) (lit< tt)))
+
+room : (c : tie.After-place) → c .place .result + recordSize * slots ≤ length (records (sized c))
+room c = omega (arith, first-known c, own-room (config (sized c)) (records (sized c)) (good-there (sized c)) (long-known (sized c)))
 
 -- the search decides
-searched : (c : tie.After-search) → broadcast (config (c .before .before .before .before .before .before .before)) (content (c .before .before .before .before .before .before .before)) (records (c .before .before .before .before .before .before .before)) (out (c .before .before .before .before .before .before .before)) ≡ foundOf (c .search .result)
-searched c =
-    broadcast-searched _ _ _ _ (good-known (configured (c .before .before .before .before .before .before .before))) (c .before .before .before .before .before .before .before .before .before .before .if2 .left) (c .before .before .before .before .before .before .before .before .before .if3 .left) (long-known (c .before .before .before .before .before .before .before))
-    ∙ sym (c .search .ensures (config (c .before .before .before .before .before .before .before)) (c .before .before .before .before .below .ensures, (c .before .before .before .quorum .ensures, c .before .before .before .before .before .before .insert .ensures))
-    ∙ scanned-own _ _ (good-known (configured (c .before .before .before .before .before .before .before))) (long-known (c .before .before .before .before .before .before .before)) _ (c .before .before .before .before .before .offset .ensures))
+module _ (c : tie.After-search) where
+  abbrev known : tie.Else4
+  known = sized (placed (ready c))
+
+  searched : broadcast (config known) (payload known) (records known) (out known) ≡ foundOf (c .search .result)
+  searched =
+      broadcast-searched _ _ _ _ (good-there known) (lengths known .before .if2 .left) (lengths known .if3 .left) (long-known known)
+      ∙ sym (c .search .ensures (config known) (ready c .before .below .ensures, (ready c .quorum .ensures, placed (ready c) .before .before .insert .ensures))
+      ∙ scanned-own _ _ (good-there known) (long-known known) _ (first-known (placed (ready c))))
 
 -- ---- and where it has found a number
 
-abbrev sized : tie.Else6 → tie.Else4
-sized c = c .before .before .before .before .before .before .before .before .before
+module _ (c : tie.Else6) where
+  abbrev found : tie.After-search
+  found = c .before .before
 
-abbrev seq : tie.Else6 → ℕ
-seq c = c .before .before .search .result
+  abbrev seq : ℕ
+  seq = found .search .result
 
-slot-known : (c : tie.Else6) → seq c < slots
-slot-known c = omega (arith, c .before .if5 .left, c .if6 .left)
+  abbrev at : tie.Else4
+  at = known found
 
-range-known : (c : tie.Else6) → inRange (config (sized c)) (config (sized c) .own) (seq c) ≡ true
-range-known c = in-range _ _ _ (good-says _ (good-known (configured (sized c))) .known) (slot-known c)
+  abbrev slot : Slot
+  slot = ownSlot (config at) seq
 
-announced : (c : tie.Else6) → broadcast (config (sized c)) (content (sized c)) (records (sized c)) (out (sized c)) ≡ done (seq c)
-announced c = searched (c .before .before) ∙ found-number _ (slot-known c)
+  seq-known : seq < slots
+  seq-known = omega (arith, c .before .if5 .left, c .if6 .left)
 
-abbrev found : tie.After-word2 → tie.Else6
-found c = c .before .before .before .before
+  range-known : inRange (config at) slot ≡ true
+  range-known = own-range (config at) seq (good-there at) seq-known
 
--- the record that is stored
-abbrev kept : tie.After-word2 → Record
-kept c = record { head = 0x100_0000_0000_0000; signers = c .before .before .before .before .before .before .before .before .before .before .before .before .insert .result; high = c .before .before .word .result; low = c .word2 .result }
+  announced : broadcast (config at) (payload at) (records at) (out at) ≡ done seq
+  announced = searched found ∙ found-number _ seq-known
 
-content-known : (c : tie.After-word2) → words.content (c .before .before .word .result) (c .word2 .result) ≡ content (sized (found c))
-content-known c =
-    ap₂ words.content (c .before .before .word .ensures) (c .word2 .ensures)
-    ∙ payload-words (content (sized (found c))) (sized (found c) .before .before .before .if2 .left) (λ i. configured (sized (found c)) .before .before .before .before .shared-slice-known .given i .fits)
+-- ---- what is stored and sent
 
--- is the announcement's
-kept-known : (c : tie.After-word2) → bytes (kept c) ≡ image (announcedBy (config (sized (found c)) .own) (content (sized (found c))))
-unfolding bytes announcedBy
-kept-known c = sym (words.image-held _ _ _) ∙ ap₂ (λ (s : ℕ) (p : List ℕ). image (Held s p)) (c .before .before .before .before .before .before .before .before .before .before .before .before .insert .ensures) (content-known c)
+module _ (c : tie.After-held) where
+  abbrev numbered : tie.Else6
+  numbered = c .before .before
 
--- and its bundle is the announcement's
-sent-known : (c : tie.After-word2) → sent (config (sized (found c))) (config (sized (found c)) .own) (seq (found c)) (bytes (kept c))
-    ≡ bundleOf (config (sized (found c)) .day) (announcedHeader (config (sized (found c))) (seq (found c))) (content (sized (found c)))
-unfolding sent
-sent-known c =
-    ap₂ (λ (s : ℕ) (p : List ℕ). bundleOf (config (sized (found c)) .day) (record { sender = config (sized (found c)) .own; seq = seq (found c); signers = s }) p)
-    (words.signers-words (kept c) (omega arith) (omega arith) ∙ c .before .before .before .before .before .before .before .before .before .before .before .before .insert .ensures)
-    (words.payload-words (kept c) (omega arith) ∙ content-known c)
+  abbrev placing : tie.After-place
+  placing = placed (ready (found numbered))
+
+  abbrev signer : tie.After-insert
+  signer = placing .before .before
+
+  place-known : placing .place .result + recordSize * seq numbered ≡ place (config (at numbered)) (slot numbered)
+  place-known = omega (arith, first-known placing, own-place (config (at numbered)) (seq numbered) (good-there (at numbered)) (seq-known numbered))
+
+  fits : place (config (at numbered)) (slot numbered) + recordSize ≤ length (records (at numbered))
+  fits = place-fits (config (at numbered)) (good-there (at numbered)) (records (at numbered)) (long-known (at numbered)) (slot numbered) (range-known numbered)
+
+  -- the record that is stored is the announcement's
+  kept-known : bytes (c .held .result) ≡ encoding (announcedBy (config (at numbered) .own) (payload (at numbered)))
+  unfolding announcedBy
+  kept-known =
+      c .held .ensures
+      ∙ ap₂ (λ (s : ℕ) (p : List ℕ). encoding (Held s p)) (signer .insert .ensures)
+      (c .before .load .ensures ∙ payload-loaded (payload (at numbered)) (lengths (at numbered) .before .if2 .left))
+
+  well-formed : WellFormed (config (at numbered) .n) (config (at numbered) .own) (quorum (config (at numbered))) (config (at numbered) .own) (announcedBy (config (at numbered) .own) (payload (at numbered)))
+  well-formed =
+      let g = good-says (config (at numbered)) (good-there (at numbered)) in
+      announced-well-formed (config (at numbered) .n) (quorum (config (at numbered))) (config (at numbered) .own) (payload (at numbered)) (g .known) (g .most)
+      (lengths (at numbered) .before .if2 .left)
+
+  -- and so is its bundle
+  sent-known : sent (slot numbered) (bytes (c .held .result)) ≡ bundleOf (announcedHeader (config (at numbered)) (seq numbered)) (payload (at numbered))
+  unfolding sent announcedBy
+  sent-known =
+      let (signed, same) =
+      encoding-fields (config (at numbered) .n) (config (at numbered) .own) (quorum (config (at numbered))) (config (at numbered) .own)
+      (good-says (config (at numbered)) (good-there (at numbered)) .most) (announcedBy (config (at numbered) .own) (payload (at numbered))) refl well-formed in
+      ap₂ bundleOf (ap (headerOf (slot numbered)) (ap signersField kept-known ∙ signed)) (ap payloadField kept-known ∙ same)
 
 -- ---- the needs
 
@@ -136,13 +179,18 @@ records-size-requires : tie.Need-records-size-requires
 records-size-requires c κs = search needs
 
 returns-4 : tie.Need-returns-4
-returns-4 c = broadcast-no-effect _ _ _ _ _ (broadcast-size _ _ _ _ (good-known (c .before .before .before .before)) (c .before .before .before .if2 .left) (c .before .before .if3 .left) (λ q. c .if4 .taken (q ∙ sym (c .before .records-size .ensures))))
+returns-4 c =
+    let ok = c .before .before in
+    broadcast-no-effect _ _ _ _ _ (broadcast-size _ _ _ _ (good-known (configured ok)) (ok .before .if2 .left) (ok .if3 .left) (λ q. c .if4 .taken (q ∙ sym (c .before .records-size .ensures))))
 
 insert-requires : tie.Need-insert-requires
 insert-requires c κs = search needs
 
-offset-requires : tie.Need-offset-requires
-offset-requires c κs = search needs
+slot-of-day-requires : tie.Need-slot-of-day-requires
+slot-of-day-requires c κs = search needs
+
+place-requires : tie.Need-place-requires
+place-requires c κs = search needs
 
 below-requires : tie.Need-below-requires
 below-requires c κs = search needs
@@ -158,8 +206,8 @@ mul-search c = search needs
 
 add-search : tie.Need-add-search
 add-search c =
-    let fits = records-fit _ (good-known (configured (c .before .before .before .before))) in
-    omega (arith, room c, long-known (c .before .before .before .before))
+    let fits = records-fit _ (good-there (sized (placed c))) in
+    omega (arith, room (placed c), long-known (sized (placed c)))
 
 sub-search : tie.Need-sub-search
 sub-search c = search needs
@@ -168,7 +216,7 @@ part-search-start : tie.Need-part-search-start
 part-search-start c = search needs
 
 part-search-end : tie.Need-part-search-end
-part-search-end c = omega (arith, room (c .before))
+part-search-end c = omega (arith, room (placed (c .before)))
 
 search-requires : tie.Need-search-requires
 search-requires c κs = search needs
@@ -185,38 +233,30 @@ same-length-2 c = search needs
 returns-6 : tie.Need-returns-6
 returns-6 c = broadcast-no-effect _ _ _ _ _ (searched (c .before .before) ∙ found-malformed _ (c .if6 .taken))
 
-sub-word : tie.Need-sub-word
-sub-word c = search needs
+load-requires : tie.Need-load-requires
+load-requires c κs = search needs
 
-part-word-start : tie.Need-part-word-start
-part-word-start c = search needs
+held-requires : tie.Need-held-requires
+held-requires c κs = search needs
 
-part-word-end : tie.Need-part-word-end
-part-word-end c = search needs
+cast-start : tie.Need-cast-start
+cast-start c = search needs
 
-word-requires : tie.Need-word-requires
-word-requires c κs = search needs
+mul-start : tie.Need-mul-start
+mul-start c = search needs
 
-sub-word-2 : tie.Need-sub-word-2
-sub-word-2 c = search needs
-
-part-word-start-2 : tie.Need-part-word-start-2
-part-word-start-2 c = search needs
-
-part-word-end-2 : tie.Need-part-word-end-2
-part-word-end-2 c = search needs
-
-word-requires-2 : tie.Need-word-requires-2
-word-requires-2 c κs = search needs
-
-offset-requires-2 : tie.Need-offset-requires-2
-offset-requires-2 c κs = search needs
+add-start : tie.Need-add-start
+add-start c =
+    let within = records-fit _ (good-there (at (numbered c))) in
+    omega (arith, place-known c, fits c, long-known (at (numbered c)))
 
 put-requires : tie.Need-put-requires
-put-requires c κs = rw (c .before .offset2 .ensures) (offset-room _ _ _ (good-known (configured (sized (found (c .before .before))))) (range-known (found (c .before .before))) (records (sized (found (c .before .before)))) (long-known (sized (found (c .before .before)))))
+put-requires c κs = omega (arith, place-known (c .before), fits (c .before))
 
 send-requires : tie.Need-send-requires
-send-requires c κs = search needs
+send-requires c κs =
+    let putting = c .before .before .before .before in
+    lengths (at (numbered (putting .before))) .if3 .left
 
 same-length-3 : tie.Need-same-length-3
 same-length-3 c = search needs
@@ -225,17 +265,19 @@ same-length-4 : tie.Need-same-length-4
 same-length-4 c = search needs
 
 returns-7 : tie.Need-returns-7
+unfolding stored slotOfDay
 returns-7 c =
-    let at = c .before .before .before .before .before .before .before .before .before in
-    let work = announced (found at) in
+    let sending = c .before .before in
+    let putting = sending .before .before .before .before in
+    let loading = putting .before .before in
+    let work = announced (numbered loading) in
     let (records-left, out-left) = broadcast-effect _ _ _ _ _ work in (
       sym work,
       (
-        c .before .before .before .before .before .before .put .ensures
-            ∙ ap₂ (λ (k : ℕ) (xs : List ℕ). replaced k xs (records (sized (found at)))) (c .before .before .before .before .before .before .before .before .offset2 .ensures) (kept-known at)
-            ∙ offset-stored _ _ _ (good-known (configured (sized (found at)))) (range-known (found at)) _ _
+        putting .put .ensures
+            ∙ ap₂ (λ (k : ℕ) (xs : List ℕ). replaced k xs (records (at (numbered loading)))) (place-known loading) (kept-known loading)
             ∙ records-left,
-        c .before .before .send .ensures ∙ sent-known at ∙ out-left,
+        sending .send .ensures ∙ sent-known loading ∙ out-left,
       ),
     )
 
@@ -250,7 +292,8 @@ broadcast-spec =
     records-size-requires
     returns-4
     insert-requires
-    offset-requires
+    slot-of-day-requires
+    place-requires
     below-requires
     quorum-requires
     cast-search
@@ -264,15 +307,11 @@ broadcast-spec =
     returns-5
     same-length-2
     returns-6
-    sub-word
-    part-word-start
-    part-word-end
-    word-requires
-    sub-word-2
-    part-word-start-2
-    part-word-end-2
-    word-requires-2
-    offset-requires-2
+    load-requires
+    held-requires
+    cast-start
+    mul-start
+    add-start
     put-requires
     send-requires
     same-length-3

@@ -1,41 +1,61 @@
 -- `delivered` meets its contract: a record that is shown lies within the buffer. Assumes nothing.
 use mathlib.Core.Path.{_≡_, refl, sym, ap, ap₂, _∙_}
+use mathlib.Core.List.{List}
 use Prim.Native.Nat.{ℕ, _+_, _-_, _≤_}
 use native.Mathlib.Omega.{arith}
 use lib.ListN.{length, take, drop}
-use Rattle.octets.specs.Octets.{further}
+use borrow.Author.Needs.{needs}
+use Rattle.octets.specs.Octets.{advance}
+use Rattle.payload.specs.Payload.{payloadSize}
 use Rattle.refusal.specs.Outcome.{done}
 use Rattle.refusal.specs.Refusal.{verdictOf}
 use Rattle.refusal.proofs.Reasons.{plain-done, plain-refused}
-use Rattle.config.specs.Config.{place, recordSize}
+use Rattle.config.specs.declared.Config.{Config}
+use Rattle.config.specs.declared.Slot.{Slot}
+use Rattle.config.specs.Config.{slotOfDay, slotPlace, place, recordSize}
+use Rattle.config.proofs.Laws.{place-slot, place-room, records-fit}
 use Rattle.record.specs.Record.{payloadAt}
-use Rattle.calls.specs.Delivered.{delivered, deliveredPart, deliveredPlace}
-use Rattle.calls.proofs.Room.{place-room, records-fit}
+use Rattle.calls.specs.Showing.{delivered, deliveredPart, deliveredPlace}
 use Rattle.calls.proofs.Refusals.{delivered-says}
-use borrow.Author.Needs.{needs}
 use Rattle.calls.proofs.delivered.Statement.{statement}
 use Rattle.calls.proofs.delivered.Tie as tie
-use Rattle.calls.proofs.check_delivered.Reads as check-delivered-reads
-use Rattle.config.proofs.Config.place.Reads as place-reads
 
 -- ---- what the check has said
 
-abbrev given : tie.After-enum-told → tie.Start
-given c = c .before .before .before .before
+module _ (c : tie.After-check-delivered) where
+  abbrev given : tie.Start
+  given = c .before .before
+
+  abbrev config : Config
+  config = given .args .config
+
+  abbrev slot : Slot
+  slot = slotOfDay config (given .args .sender) (given .args .seq)
+
+  abbrev records : List ℕ
+  records = given .args .records .now
+
+abbrev asked : tie.After-place → tie.After-check-delivered
+asked c = c .before .before .before .before
 
 shown : (c : tie.After-enum-told)
-    → delivered (given c .args .config) (given c .args .sender) (given c .args .seq) (given c .args .records .now) ≡ done (place (given c .args .config) (given c .args .sender) (given c .args .seq) + payloadAt)
+    → delivered (config (c .before .before)) (slot (c .before .before)) (records (c .before .before)) ≡ done (place (config (c .before .before)) (slot (c .before .before)) + payloadAt)
 unfolding delivered
 shown c = plain-done _ _ (sym (c .before .before .check-delivered .ensures) ∙ ap verdictOf (c .enum-told .given .1))
 
-room : (c : tie.After-place) → c .place .result + recordSize ≤ length (given (c .before) .args .records .now)
+place-known : (c : tie.After-place) → c .place .result ≡ place (config (asked c)) (slot (asked c))
+place-known c =
+    let (configured, range, long) = delivered-says _ _ _ _ (shown (c .before .before)) in
+    c .place .ensures ∙ ap slotPlace (c .before .slot-of-day .ensures) ∙ sym (place-slot (config (asked c)) (slot (asked c)) configured range)
+
+room : (c : tie.After-place) → c .place .result + recordSize ≤ length (records (asked c))
 room c =
-    let (configured, range, long) = delivered-says _ _ _ _ _ (shown (c .before)) in
-    rw (c .place .ensures, long) (place-room _ _ _ configured range)
+    let (configured, range, long) = delivered-says _ _ _ _ (shown (c .before .before)) in
+    omega (arith, place-known c, long, place-room (config (asked c)) (slot (asked c)) configured range)
 
 -- the part starts at the payload's place
-from : (c : tie.After-place) → c .place .result + 16 ≡ place (given (c .before) .args .config) (given (c .before) .args .sender) (given (c .before) .args .seq) + payloadAt
-from c = omega (arith, c .place .ensures)
+from : (c : tie.After-place) → c .place .result + payloadAt ≡ place (config (asked c)) (slot (asked c)) + payloadAt
+from c = ap (λ (k : ℕ). k + payloadAt) (place-known c)
 
 -- ---- the needs
 
@@ -45,18 +65,21 @@ check-delivered-requires c κs = search needs
 enum-told : tie.Need-enum-told
 enum-told c = search needs
 
+slot-of-day-requires : tie.Need-slot-of-day-requires
+slot-of-day-requires c κs = search needs
+
 place-requires : tie.Need-place-requires
 place-requires c κs = search needs
 
 add-start : tie.Need-add-start
 add-start c =
-    let (configured, range, long) = delivered-says _ _ _ _ _ (shown (c .before)) in
+    let (configured, range, long) = delivered-says _ _ _ _ (shown (c .before .before)) in
     let fits = records-fit _ configured in
     omega (arith, room c)
 
 add-result : tie.Need-add-result
 add-result c =
-    let (configured, range, long) = delivered-says _ _ _ _ _ (shown (c .before)) in
+    let (configured, range, long) = delivered-says _ _ _ _ (shown (c .before .before)) in
     let fits = records-fit _ configured in
     omega (arith, room c)
 
@@ -84,13 +107,19 @@ part-result-end-2 c = search needs
 returns : tie.Need-returns
 unfolding deliveredPart deliveredPlace
 returns c =
-    let sixteen : c .before .place .result + 16 + 16 - (c .before .place .result + 16) ≡ 16 = omega arith in
-    rw (shown (c .before .before)) (ap₂ (λ (k i : ℕ). take k (drop i (c .before .before .before .before .before .before .args .records .now))) sixteen (from (c .before)), ap (λ (k : ℕ). further k (c .before .before .before .before .before .before .args .records .ptr)) (from (c .before)))
+    let placed = c .before in
+    let sixteen : placed .place .result + payloadAt + payloadSize - (placed .place .result + payloadAt) ≡ payloadSize = omega arith in
+    rw (shown (placed .before .before)) (
+      ap₂ (λ (k i : ℕ). take k (drop i (records (asked placed)))) sixteen (from placed),
+      ap (λ (k : ℕ). advance k (given (asked placed) .args .records .ptr)) (from placed),
+    )
 
 returns-2 : tie.Need-returns-2
 unfolding deliveredPart deliveredPlace
 returns-2 c =
-    let none = plain-refused (delivered (c .before .before .before .before .before .args .config) (c .before .before .before .before .before .args .sender) (c .before .before .before .before .before .args .seq) (c .before .before .before .before .before .args .records .now)) _ (sym (c .before .before .before .check-delivered .ensures) ∙ ap verdictOf (c .before .enum-told2 .given .1)) in
+    let told = c .before in
+    let none = plain-refused (delivered (config (told .before .before)) (slot (told .before .before)) (records (told .before .before))) _
+    (sym (told .before .before .check-delivered .ensures) ∙ ap verdictOf (told .enum-told2 .given .1)) in
     rw none (refl, refl)
 
 pub delivered-spec : {M : Type 1} → statement M
@@ -99,6 +128,7 @@ delivered-spec =
     (tie.spec
     check-delivered-requires
     enum-told
+    slot-of-day-requires
     place-requires
     add-start
     add-result

@@ -1,6 +1,6 @@
 -- `get` meets its contract: a part of the buffer's 32 bytes is loaded as it is. Assumes nothing.
 use mathlib.Core.Path.{_∙_}
-use Rattle.calls.proofs.Room.{loaded-part}
+use Rattle.calls.proofs.RecordBounds.{loaded-part}
 use borrow.Author.Needs.{needs}
 use Rattle.calls.proofs.get.Statement.{statement}
 use Rattle.calls.proofs.get.Tie as tie

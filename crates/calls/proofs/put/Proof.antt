@@ -1,7 +1,7 @@
 -- `put` meets its contract: what is stored over a part stands in its place. Assumes nothing.
 use Rattle.record.specs.Record.{bytes}
 use Rattle.calls.specs.Records.{replaced}
-use Rattle.calls.proofs.Room.{stored-part}
+use Rattle.calls.proofs.RecordBounds.{stored-part}
 use borrow.Author.Needs.{needs}
 use Rattle.calls.proofs.put.Statement.{statement}
 use Rattle.calls.proofs.put.Tie as tie

@@ -1,11 +1,16 @@
--- `mbrb_broadcast` meets its contract: the code is that of the call's answer. Assumes nothing.
+-- `mbrb_broadcast` meets its contract: it is the call on the configuration that the five numbers give. Assumes nothing.
 use mathlib.Core.Path.{ap, _∙_}
-use Rattle.host.specs.Code.{announcedCode}
 use borrow.Author.Needs.{needs}
+use Rattle.config.specs.declared.Config.{Config}
+use Rattle.calls.specs.Broadcast.{broadcast, broadcastRecords, broadcastOut}
+use Rattle.host.specs.Code.{announcedCode}
 use Rattle.host.proofs.mbrb_broadcast.Statement.{statement}
 use Rattle.host.proofs.mbrb_broadcast.Tie as tie
-use Rattle.calls.proofs.broadcast.Reads as broadcast-reads
-use Rattle.host.proofs.announcement_code.Reads as announcement-code-reads
+
+-- ---- the needs
+
+config-requires : tie.Need-config-requires
+config-requires c κs = search needs
 
 broadcast-requires : tie.Need-broadcast-requires
 broadcast-requires c κs = search needs
@@ -20,9 +25,26 @@ same-length-2 : tie.Need-same-length-2
 same-length-2 c = search needs
 
 returns : tie.Need-returns
-returns c = (c .announcement-code .ensures ∙ ap announcedCode (c .before .before .before .before .before .broadcast .ensures .0), (c .before .before .before .before .before .broadcast .ensures .1 .0, c .before .before .before .before .before .broadcast .ensures .1 .1))
+returns c =
+    let called = c .before .before .before .before .before in
+    let configured = called .before .before .before in
+    let a = configured .before .before .before .before .args in (
+      c .announcement-code .ensures
+          ∙ ap announcedCode (called .broadcast .ensures .0)
+          ∙ ap (λ (config : Config). announcedCode (broadcast config (a .payload .now) (a .records .now) (a .out .now))) (configured .config .ensures),
+      (
+        called .broadcast .ensures .1 .0 ∙ ap (λ (config : Config). broadcastRecords config (a .payload .now) (a .records .now) (a .out .now)) (configured .config .ensures),
+        called .broadcast .ensures .1 .1 ∙ ap (λ (config : Config). broadcastOut config (a .payload .now) (a .records .now) (a .out .now)) (configured .config .ensures),
+      ),
+    )
 
 pub mbrb-broadcast-spec : {M : Type 1} → statement M
 mbrb-broadcast-spec =
     tie.close
-    (tie.spec broadcast-requires announcement-code-requires same-length same-length-2 returns)
+    (tie.spec
+    config-requires
+    broadcast-requires
+    announcement-code-requires
+    same-length
+    same-length-2
+    returns)

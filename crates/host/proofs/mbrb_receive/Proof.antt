@@ -1,12 +1,17 @@
--- `mbrb_receive` meets its contract: the code is that of the call's answer, whatever its count. Assumes nothing.
+-- `mbrb_receive` meets its contract: it is the call on the configuration that the five numbers give. Assumes nothing.
 use mathlib.Core.Path.{ap, _∙_}
-use Rattle.host.specs.Code.{reportedCode}
-use Rattle.host.proofs.Codes.{reported-received}
 use borrow.Author.Needs.{needs}
+use Rattle.config.specs.declared.Config.{Config}
+use Rattle.calls.specs.Receive.{receive, receiveRecords, receiveOut}
+use Rattle.host.specs.Code.{receivedCode, reportedCode}
+use Rattle.host.proofs.Codes.{reported-received}
 use Rattle.host.proofs.mbrb_receive.Statement.{statement}
 use Rattle.host.proofs.mbrb_receive.Tie as tie
-use Rattle.calls.proofs.receive.Reads as receive-reads
-use Rattle.host.proofs.receipt_code.Reads as receipt-code-reads
+
+-- ---- the needs
+
+config-requires : tie.Need-config-requires
+config-requires c κs = search needs
 
 receive-requires : tie.Need-receive-requires
 receive-requires c κs = search needs
@@ -21,8 +26,26 @@ same-length-2 : tie.Need-same-length-2
 same-length-2 c = search needs
 
 returns : tie.Need-returns
-returns c = (c .receipt-code .ensures ∙ ap reportedCode (c .before .before .before .before .before .receive .ensures .0) ∙ reported-received _ _ _ _, (c .before .before .before .before .before .receive .ensures .1 .0, c .before .before .before .before .before .receive .ensures .1 .1))
+returns c =
+    let called = c .before .before .before .before .before in
+    let configured = called .before .before .before in
+    let a = configured .before .before .before .before .args in (
+      c .receipt-code .ensures
+          ∙ ap reportedCode (called .receive .ensures .0) ∙ reported-received _ _ _ _
+          ∙ ap (λ (config : Config). receivedCode (receive config (a .bundle .now) (a .records .now) (a .out .now))) (configured .config .ensures),
+      (
+        called .receive .ensures .1 .0 ∙ ap (λ (config : Config). receiveRecords config (a .bundle .now) (a .records .now) (a .out .now)) (configured .config .ensures),
+        called .receive .ensures .1 .1 ∙ ap (λ (config : Config). receiveOut config (a .bundle .now) (a .records .now) (a .out .now)) (configured .config .ensures),
+      ),
+    )
 
 pub mbrb-receive-spec : {M : Type 1} → statement M
 mbrb-receive-spec =
-    tie.close (tie.spec receive-requires receipt-code-requires same-length same-length-2 returns)
+    tie.close
+    (tie.spec
+    config-requires
+    receive-requires
+    receipt-code-requires
+    same-length
+    same-length-2
+    returns)

@@ -5,7 +5,7 @@ use Prim.Native.Nat.{_≤_, _<_, _-_, zero-le}
 use native.Mathlib.Omega.{arith}
 use lib.ListN.{length, drop, replicate, length-set}
 use borrow.Author.Needs.{needs}
-use Rattle.octets.proofs.Stored.{cleared-more, cleared-all}
+use Rattle.octets.proofs.Cleared.{cleared-more, cleared-all}
 use Rattle.octets.proofs.clear.Statement.{statement}
 use Rattle.octets.proofs.clear.Tie as tie
 

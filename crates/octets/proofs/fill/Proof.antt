@@ -1,10 +1,28 @@
--- `fill` meets its contract. Assumes nothing.
-use borrow.Author.Tests.{ne-eqb}
-use Rattle.octets.specs.Octets.{filled}
-use Rattle.octets.proofs.Stored.{put-words}
+-- `fill` meets its contract: four words are put one after the other. Assumes nothing.
+use mathlib.Core.Path.{_∙_}
+use native.Mathlib.Omega.{arith}
+use borrow.Author.Tests.{eq-eqb, ne-eqb}
+use Rattle.octets.specs.Octets.{bytesOf, words, filled}
+use Rattle.octets.proofs.WordWritten.{written-none, written-word, written-all}
 use borrow.Author.Needs.{needs}
 use Rattle.octets.proofs.fill.Statement.{statement}
 use Rattle.octets.proofs.fill.Tie as tie
+use Rattle.octets.proofs.put.Reads as put-reads
+
+-- each put, from the end
+abbrev fourth : tie.After-slice-known5 → tie.After-put4
+fourth c = c .before .before
+
+abbrev third : tie.After-slice-known5 → tie.After-put3
+third c = fourth c .before .before .before .before
+
+abbrev second : tie.After-slice-known5 → tie.After-put2
+second c = third c .before .before .before .before
+
+abbrev first : tie.After-slice-known5 → tie.After-put
+first c = second c .before .before .before .before
+
+-- ---- the needs
 
 returns : tie.Need-returns
 unfolding filled
@@ -26,7 +44,14 @@ same-length : tie.Need-same-length
 same-length c = search needs
 
 returns-2 : tie.Need-returns-2
-returns-2 c = put-words _ _ _ _ _ _ _ _ _ (c .before .before .before .before .before .before .before .before .before .before .before .before .before .before .before .before .if1 .left) (c .before .before .before .before .before .before .before .before .before .before .before .before .before .before .put .ensures) (c .before .before .before .before .before .before .before .before .before .before .put2 .ensures) (c .before .before .before .before .before .before .put3 .ensures) (c .before .before .put4 .ensures)
+unfolding filled words bytesOf
+returns-2 c =
+    let long = first c .before .before .if1 .left in
+    let one = written-word _ (written-none _) (omega arith) (first c .put .ensures) in
+    let two = written-word _ one (omega arith) (second c .put2 .ensures) in
+    let three = written-word _ two (omega arith) (third c .put3 .ensures) in
+    let four = written-word _ three (omega arith) (fourth c .put4 .ensures) in
+    written-all four (omega arith) ∙ rw (eq-eqb _ _ long)
 
 pub fill-spec : {M : Type 1} → statement M
 fill-spec =

@@ -1,5 +1,5 @@
 -- `low_first` meets its contract. Assumes nothing.
-use Rattle.octets.proofs.Joined.{joined-elements}
+use Rattle.octets.proofs.WordRead.{joined-elements}
 use borrow.Author.Needs.{needs}
 use Rattle.octets.proofs.low_first.Statement.{statement}
 use Rattle.octets.proofs.low_first.Tie as tie

@@ -1,116 +1,53 @@
--- `put` meets its contract: eight stores keep the length, and put the word in its place. Assumes nothing.
+-- `put` meets its contract: a slice with no room stays, and else a part of it becomes the word. Assumes nothing.
+use mathlib.Core.Path.{sym}
 use native.Mathlib.Omega.{arith}
-use lib.ListN.{length-set}
-use Rattle.octets.proofs.Stored.{stored-word}
+use Rattle.octets.proofs.WordWritten.{placed-part, placed-none}
 use borrow.Author.Needs.{needs}
 use Rattle.octets.proofs.put.Statement.{statement}
 use Rattle.octets.proofs.put.Tie as tie
-
-reversed-requires : tie.Need-reversed-requires
-reversed-requires c κs = search needs
-
-cast-bytes : tie.Need-cast-bytes
-cast-bytes c = search needs
-
-slice-write-bytes : tie.Need-slice-write-bytes
-slice-write-bytes c = search needs
-
-cast-bytes-2 : tie.Need-cast-bytes-2
-cast-bytes-2 c = search needs
-
-add-bytes : tie.Need-add-bytes
-add-bytes c = search needs
-
-slice-write-bytes-2 : tie.Need-slice-write-bytes-2
-slice-write-bytes-2 c = simp length-set (omega arith)
-
-cast-bytes-3 : tie.Need-cast-bytes-3
-cast-bytes-3 c = search needs
-
-add-bytes-2 : tie.Need-add-bytes-2
-add-bytes-2 c = search needs
-
-slice-write-bytes-3 : tie.Need-slice-write-bytes-3
-slice-write-bytes-3 c = simp length-set (omega arith)
-
-cast-bytes-4 : tie.Need-cast-bytes-4
-cast-bytes-4 c = search needs
-
-add-bytes-3 : tie.Need-add-bytes-3
-add-bytes-3 c = search needs
-
-slice-write-bytes-4 : tie.Need-slice-write-bytes-4
-slice-write-bytes-4 c = simp length-set (omega arith)
-
-cast-bytes-5 : tie.Need-cast-bytes-5
-cast-bytes-5 c = search needs
-
-add-bytes-4 : tie.Need-add-bytes-4
-add-bytes-4 c = search needs
-
-slice-write-bytes-5 : tie.Need-slice-write-bytes-5
-slice-write-bytes-5 c = simp length-set (omega arith)
-
-cast-bytes-6 : tie.Need-cast-bytes-6
-cast-bytes-6 c = search needs
-
-add-bytes-5 : tie.Need-add-bytes-5
-add-bytes-5 c = search needs
-
-slice-write-bytes-6 : tie.Need-slice-write-bytes-6
-slice-write-bytes-6 c = simp length-set (omega arith)
-
-cast-bytes-7 : tie.Need-cast-bytes-7
-cast-bytes-7 c = search needs
-
-add-bytes-6 : tie.Need-add-bytes-6
-add-bytes-6 c = search needs
-
-slice-write-bytes-7 : tie.Need-slice-write-bytes-7
-slice-write-bytes-7 c = simp length-set (omega arith)
-
-cast-bytes-8 : tie.Need-cast-bytes-8
-cast-bytes-8 c = search needs
-
-add-bytes-7 : tie.Need-add-bytes-7
-add-bytes-7 c = search needs
-
-slice-write-bytes-8 : tie.Need-slice-write-bytes-8
-slice-write-bytes-8 c = simp length-set (omega arith)
-
-same-length : tie.Need-same-length
-same-length c = simp length-set
+use Rattle.octets.proofs.store.Reads as store-reads
 
 returns : tie.Need-returns
-returns c = stored-word _ _ _ _ (c .before .before .pre) (c .reversed .ensures)
+returns c = sym (placed-none _ _ _ (omega (arith, c .if1 .taken)))
+
+sub-if2 : tie.Need-sub-if2
+sub-if2 c = search needs
+
+returns-2 : tie.Need-returns-2
+returns-2 c = sym (placed-none _ _ _ (omega (arith, c .if2 .taken)))
+
+add-store : tie.Need-add-store
+add-store c = search needs
+
+sub-store : tie.Need-sub-store
+sub-store c = search needs
+
+part-store-start : tie.Need-part-store-start
+part-store-start c = search needs
+
+part-store-end : tie.Need-part-store-end
+part-store-end c = search needs
+
+store-requires : tie.Need-store-requires
+store-requires c κs = search needs
+
+same-length : tie.Need-same-length
+same-length c = search needs
+
+returns-3 : tie.Need-returns-3
+returns-3 c = placed-part _ _ (c .before .before .before .before .before .before .before .args .bytes .now) _ (omega arith) (c .before .before .store .ensures)
 
 pub put-spec : {M : Type 1} → statement M
 put-spec =
     tie.close
     (tie.spec
-    reversed-requires
-    cast-bytes
-    slice-write-bytes
-    cast-bytes-2
-    add-bytes
-    slice-write-bytes-2
-    cast-bytes-3
-    add-bytes-2
-    slice-write-bytes-3
-    cast-bytes-4
-    add-bytes-3
-    slice-write-bytes-4
-    cast-bytes-5
-    add-bytes-4
-    slice-write-bytes-5
-    cast-bytes-6
-    add-bytes-5
-    slice-write-bytes-6
-    cast-bytes-7
-    add-bytes-6
-    slice-write-bytes-7
-    cast-bytes-8
-    add-bytes-7
-    slice-write-bytes-8
+    returns
+    sub-if2
+    returns-2
+    add-store
+    sub-store
+    part-store-start
+    part-store-end
+    store-requires
     same-length
-    returns)
+    returns-3)

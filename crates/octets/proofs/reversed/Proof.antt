@@ -1,5 +1,5 @@
 -- `reversed` meets its contract. Assumes nothing.
-use Rattle.octets.proofs.Joined.{joined-reverse}
+use Rattle.octets.proofs.WordRead.{joined-reverse}
 use Rattle.octets.proofs.reversed.Statement.{statement}
 use Rattle.octets.proofs.reversed.Tie as tie
 

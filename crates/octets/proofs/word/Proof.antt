@@ -1,7 +1,7 @@
 -- `word` meets its contract: a slice of another length, or eight bytes turned round twice. Assumes nothing.
 use mathlib.Core.Path.{sym, ap, _∙_}
 use mathlib.Core.List.{reverse, reverse-reverse}
-use Rattle.octets.proofs.Joined.{word-other, word-unique}
+use Rattle.octets.proofs.WordRead.{word-other, word-unique}
 use native.Mathlib.Omega.{arith}
 use borrow.Author.Needs.{needs}
 use Rattle.octets.proofs.word.Statement.{statement}

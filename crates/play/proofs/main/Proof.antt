@@ -4,21 +4,22 @@ use Prim.Native.Nat.{ℕ}
 use lib.ListN.{length, length-replicate}
 use lib.Seq.{length-take-le}
 use borrow.Author.Needs.{needs}
+use Rattle.run.specs.Stream.{mostChunk}
 use Rattle.play.proofs.main.Statement.{statement}
 use Rattle.play.proofs.main.Tie as tie
 
 abbrev Inv-loop : tie.InvT-loop
-Inv-loop chunk₀ held₀ records₀ out₀ run₀ reads₀ t12 chunk held records out run reads =
-    length chunk ≡ 16384
+Inv-loop chunk₀ line₀ records₀ out₀ run₀ reads₀ t12 chunk line records out run reads =
+    length chunk ≡ mostChunk
 
 abbrev μ-loop : tie.MeasureT-loop
-μ-loop chunk₀ held₀ records₀ out₀ run₀ reads₀ t12 chunk held records out run reads = reads
+μ-loop chunk₀ line₀ records₀ out₀ run₀ reads₀ t12 chunk line records out run reads = reads
 
 start-requires : tie.Need-start-requires Inv-loop μ-loop
 start-requires c κs = search needs
 
 loop-holds : tie.Need-loop-holds Inv-loop μ-loop
-loop-holds c = length-replicate {A = ℕ} 16384 0
+loop-holds c = length-replicate {A = ℕ} mostChunk 0
 
 sub-reads : tie.Need-sub-reads Inv-loop μ-loop
 sub-reads c = search needs

@@ -1,12 +1,19 @@
--- `join` meets its contract: the cases of taking on a record that holds the payload. Assumes nothing.
-use native.Mathlib.Omega.{arith}
-use Rattle.record.proofs.Updated.{update-full, update-kept, step-delivered, step-held}
+-- `join` meets its contract: the cases of receiving on a record that holds the payload. Assumes nothing.
+use Rattle.record.proofs.UpdateCases.{update-full, update-kept, encoded-delivered, encoded-held}
 use borrow.Author.Needs.{needs}
 use Rattle.record.proofs.join.Statement.{statement}
 use Rattle.record.proofs.join.Tie as tie
 use Rattle.config.proofs.Config.quorum.Reads as quorum-reads
+use Rattle.record.proofs.Record.delivered.Reads as delivered-reads
+use Rattle.record.proofs.Record.held.Reads as held-reads
 use Rattle.signers.proofs.size.Reads as size-reads
 use Rattle.signers.proofs.union.Reads as union-reads
+
+-- where the signers are joined
+abbrev counted : tie.After-size → tie.After-union
+counted c = c .before .before
+
+-- ---- the needs
 
 union-requires : tie.Need-union-requires
 union-requires c κs = search needs
@@ -17,15 +24,34 @@ quorum-requires c κs = search needs
 size-requires : tie.Need-size-requires
 size-requires c κs = search needs
 
+delivered-requires : tie.Need-delivered-requires
+delivered-requires c κs = search needs
+
 returns : tie.Need-returns
 returns c =
-    step-delivered _ _ _ _ _ (omega (arith, c .before .before .before .union .ensures))
-    (update-full _ _ _ _ _ (rw (c .before .before .quorum .ensures, c .before .size .ensures, c .before .before .before .union .ensures) at (c .if1 .taken)))
+    let known = counted (c .before .before) in
+    encoded-delivered _ _ _ _ _ (known .union .ensures)
+    (update-full _ _ _ _ _ (rw (c .before .before .before .quorum .ensures, c .before .before .size .ensures, known .union .ensures) at (c .before .if1 .taken)))
+    (c .delivered .ensures)
+
+held-requires : tie.Need-held-requires
+held-requires c κs = search needs
 
 returns-2 : tie.Need-returns-2
 returns-2 c =
-    step-held _ _ _ _ _ (omega (arith, c .before .before .before .union .ensures)) _
-    (update-kept _ _ _ _ _ (rw (c .before .before .quorum .ensures, c .before .size .ensures, c .before .before .before .union .ensures) at (c .if1 .left)))
+    let known = counted (c .before .before) in
+    encoded-held _ _ _ _ _ (known .union .ensures) _
+    (update-kept _ _ _ _ _ (rw (c .before .before .before .quorum .ensures, c .before .before .size .ensures, known .union .ensures) at (c .before .if1 .left)))
+    (c .held .ensures)
 
 pub join-spec : {M : Type 1} → statement M
-join-spec = tie.close (tie.spec union-requires quorum-requires size-requires returns returns-2)
+join-spec =
+    tie.close
+    (tie.spec
+    union-requires
+    quorum-requires
+    size-requires
+    delivered-requires
+    returns
+    held-requires
+    returns-2)

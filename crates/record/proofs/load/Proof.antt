@@ -1,13 +1,24 @@
--- `load` meets its contract: 32 bytes are their four words. Assumes nothing.
-use Rattle.record.specs.Record.{bytes}
+-- `load` meets its contract: 32 bytes are two words and a payload. Assumes nothing.
 use Rattle.record.proofs.Words.{loaded-whole, loaded-other}
 use borrow.Author.Needs.{needs}
 use Rattle.record.proofs.load.Statement.{statement}
 use Rattle.record.proofs.load.Tie as tie
 use Rattle.octets.proofs.word.Reads as word-reads
+use Rattle.payload.proofs.load.Reads as load-reads
+
+-- where the signers, the first word and the length are known
+abbrev signers-read : tie.After-load → tie.After-word2
+signers-read c = c .before .before
+
+abbrev head-read : tie.After-load → tie.After-word
+head-read c = signers-read c .before .before
+
+abbrev sized : tie.After-load → tie.Else1
+sized c = head-read c .before .before
+
+-- ---- the needs
 
 returns : tie.Need-returns
-unfolding bytes
 returns c = loaded-other _ (c .if1 .taken)
 
 sub-word : tie.Need-sub-word
@@ -34,35 +45,24 @@ part-word-end-2 c = search needs
 word-requires-2 : tie.Need-word-requires-2
 word-requires-2 c κs = search needs
 
-sub-word-3 : tie.Need-sub-word-3
-sub-word-3 c = search needs
+add-load : tie.Need-add-load
+add-load c = search needs
 
-part-word-start-3 : tie.Need-part-word-start-3
-part-word-start-3 c = search needs
+sub-load : tie.Need-sub-load
+sub-load c = search needs
 
-part-word-end-3 : tie.Need-part-word-end-3
-part-word-end-3 c = search needs
+part-load-start : tie.Need-part-load-start
+part-load-start c = search needs
 
-word-requires-3 : tie.Need-word-requires-3
-word-requires-3 c κs = search needs
+part-load-end : tie.Need-part-load-end
+part-load-end c = search needs
 
-sub-word-4 : tie.Need-sub-word-4
-sub-word-4 c = search needs
-
-part-word-start-4 : tie.Need-part-word-start-4
-part-word-start-4 c = search needs
-
-part-word-end-4 : tie.Need-part-word-end-4
-part-word-end-4 c = search needs
-
-word-requires-4 : tie.Need-word-requires-4
-word-requires-4 c κs = search needs
+load-requires : tie.Need-load-requires
+load-requires c κs = search needs
 
 returns-2 : tie.Need-returns-2
-unfolding bytes
 returns-2 c =
-    rw (c .before .before .before .before .before .before .word .ensures, c .before .before .before .before .word2 .ensures, c .before .before .word3 .ensures, c .word4 .ensures)
-    (loaded-whole _ (c .before .before .before .before .before .before .before .before .if1 .left) (λ i. c .before .before .before .before .before .before .before .before .before .shared-slice-known .given i .fits))
+    loaded-whole _ _ (sized c .if1 .left) (λ i. sized c .before .shared-slice-known .given i .fits) (head-read c .word .ensures) (signers-read c .word2 .ensures) (c .load .ensures)
 
 pub load-spec : {M : Type 1} → statement M
 load-spec =
@@ -77,12 +77,9 @@ load-spec =
     part-word-start-2
     part-word-end-2
     word-requires-2
-    sub-word-3
-    part-word-start-3
-    part-word-end-3
-    word-requires-3
-    sub-word-4
-    part-word-start-4
-    part-word-end-4
-    word-requires-4
+    add-load
+    sub-load
+    part-load-start
+    part-load-end
+    load-requires
     returns-2)

@@ -1,78 +1,84 @@
 -- `broadcast` meets its contract. Assumes nothing.
 use mathlib.Core.Path.{_≡_, sym, ap, _∙_}
-use mathlib.Core.Bool.{true, false, cond}
+use mathlib.Core.Bool.{true, false, true≢false}
 use mathlib.Core.List.{List}
 use Prim.Native.Nat.{ℕ}
 use native.Mathlib.Omega.{arith}
-use lib.Dec.{eqb}
-use lib.ListN.{length, take, drop, length-drop}
-use lib.Seq.{drop-drop}
+use lib.ListN.{take, drop}
 use borrow.Author.Needs.{needs}
-use borrow.Author.Tests.{eq-eqb, not-true, not-false}
+use borrow.Author.Tests.{not-true, not-false}
 use Rattle.octets.specs.Octets.{same}
-use Rattle.text.specs.Text.{ascii, hex, value}
-use Rattle.row.specs.declared.Step.the-variants.{Broadcast}
-use Rattle.row.specs.declared.Row.{Row}
-use Rattle.row.specs.declared.Row.the-variants.{Unread, At}
-use Rattle.row.specs.Tails.{broadcastTail}
-use Rattle.row.proofs.Places.{word-not, word-says}
-use Rattle.row.proofs.Rows.{payloadIn, broadcast-tail, broadcast-other}
+use Rattle.text.specs.Text.{ascii}
+use Rattle.text.proofs.FieldPositions.{Starts, NumberRead, part-end, part-from}
+use Rattle.row.specs.Row.{payloadDigits, inSystem}
+use Rattle.row.specs.RowParts.{hexPayloadIn}
+use Rattle.row.proofs.RowFields.{dashes, DashesRead, dashes-there, dashes-read, broadcast-row, broadcast-refused}
+use Rattle.row.proofs.RowParts.{node-read, node-missing, payload-read, payload-missing}
 use Rattle.row.proofs.broadcast.Statement.{statement}
 use Rattle.row.proofs.broadcast.Tie as tie
 
--- ---- what is known behind each test
+-- ---- the places
 
-abbrev tail : tie.Else1 → List ℕ
-tail c = c .before .before .args .tail .now
+abbrev line : tie.After-read-node → List ℕ
+line c = c .before .before .args .line .now
 
-long-known : (c : tie.Else1) → eqb (length (drop 6 (tail c))) 32 ≡ true
-long-known c = eq-eqb (length (drop 6 (tail c))) 32 (omega (arith, length-drop 6 (tail c), c .if1 .left))
+abbrev n : tie.After-read-node → ℕ
+n c = c .before .before .args .n
 
-abbrev long : tie.Else2 → tie.Else1
-long c = c .before .before .before .before
+abbrev asked : tie.After-known-told → tie.After-read-node
+asked c = c .before .before .before
 
-dashes-known : (c : tie.Else2) → same (take 6 (tail (long c))) (ascii "- - - ") ≡ true
+abbrev at : tie.After-known-told → ℕ
+at c = c .before .node .given .0 .1 .0
+
+abbrev dashed : tie.After-read-payload → tie.Else2
+dashed c = c .before .before
+
+abbrev noded : tie.After-same → tie.After-known-told
+noded c = c .before .before .before .before
+
+-- ---- what is known there
+
+start : (c : tie.After-read-node) → Starts 1 2 (line c)
+start c = record { here = c .before .before .pre }
+
+node-known : (c : tie.After-known-told) → (inSystem (n (asked c)) (line (asked c)) ≡ true) × NumberRead 255 1 (line (asked c)) (c .before .node .given .0 .0) (at c)
+node-known c = node-read (n (asked c)) (line (asked c)) (start (asked c)) (asked c .read-node .ensures) _ _ (c .before .node .given .1)
+
+dashes-tested : (c : tie.After-same) → c .same .result ≡ same (take 6 (drop (at (noded c)) (line (asked (noded c))))) dashes
 unfolding ascii
-dashes-known c = sym (c .before .same .ensures) ∙ not-false _ (c .if2 .left)
+dashes-tested c = c .same .ensures ∙ ap (λ (xs : List ℕ). same xs dashes) (part-from (at (noded c)) 6 (line (asked (noded c))))
 
-dashes-missing : (c : tie.Then2) → same (take 6 (c .before .before .before .before .before .before .args .tail .now)) (ascii "- - - ") ≡ false
-unfolding ascii
-dashes-missing c = sym (c .before .same .ensures) ∙ not-true _ (c .if2 .taken)
+dashes-known : (c : tie.Else2) → DashesRead (line (asked (noded (c .before)))) (at (noded (c .before)))
+dashes-known c =
+    dashes-read _ _ (node-known (noded (c .before)) .1 .starts) (sym (dashes-tested (c .before)) ∙ not-false _ (c .if2 .left))
 
--- behind them the payload decides
-abbrev payload : tie.Else2 → Row
-payload c = payloadIn (λ high low. At (long c .before .before .args .node) (Broadcast high low)) (drop 6 (tail (long c)))
-
-payload-decides : (c : tie.Else2) → broadcastTail (long c .before .before .args .node) (tail (long c)) ≡ payload c
-payload-decides c = broadcast-tail (long c .before .before .args .node) (tail (long c)) ∙ rw (dashes-known c)
-
-abbrev dashed : tie.After-known-told → tie.Else2
-dashed c = c .before .before .before .before .before
-
-high-known : (c : tie.After-known-told)
-    → (hex 16 (take 16 (drop 6 (tail (long (dashed c))))) ≡ true) × (value 16 0 (take 16 (drop 6 (tail (long (dashed c))))) ≡ c .before .first .given .0 .0)
-high-known c = word-says (take 16 (drop 6 (tail (long (dashed c))))) (c .before .first .given .0 .0) (sym (c .before .before .before .hex .ensures) ∙ c .before .first .given .1)
-
--- and the second word, the last 16 bytes
-abbrev half : tie.After-hex2 → tie.After-known-told
-half c = c .before .before
-
-low-part : (xs : List ℕ) → take 16 (drop 16 (drop 6 xs)) ≡ take 16 (drop 22 xs)
-low-part xs = ap (take 16) (drop-drop 16 6 xs)
-
-word-decides : (c : tie.After-hex2)
-    → broadcastTail (long (dashed (half c)) .before .before .args .node) (tail (long (dashed (half c))))
-    ≡ cond (hex 16 (take 16 (drop 22 (tail (long (dashed (half c)))))))
-    (At (long (dashed (half c)) .before .before .args .node) (Broadcast (half c .before .first .given .0 .0) (value 16 0 (take 16 (drop 22 (tail (long (dashed (half c)))))))))
-    Unread
-word-decides c =
-    payload-decides (dashed (half c))
-    ∙ rw (long-known (long (dashed (half c))), high-known (half c) .0, high-known (half c) .1, low-part (tail (long (dashed (half c)))))
+payload-reader : (c : tie.After-read-payload) → c .read-payload .result ≡ hexPayloadIn (payloadDigits (line (asked (noded (dashed c .before)))))
+payload-reader c =
+    c .read-payload .ensures ∙ ap hexPayloadIn (part-end _ (line (asked (noded (dashed c .before)))) ∙ sym (dashes-known (dashed c) .payload))
 
 -- ---- the needs
 
+read-node-requires : tie.Need-read-node-requires
+read-node-requires c κs = c .before .pre
+
+enum-known-node : tie.Need-enum-known-node
+enum-known-node c = search needs
+
+enum-told : tie.Need-enum-told
+enum-told c = search needs
+
 returns : tie.Need-returns
-returns c = sym (broadcast-other _ _ (c .if1 .taken))
+returns c = broadcast-refused _ _ (λ f. node-missing _ _ (start (c .before .before)) (c .before .before .read-node .ensures) (c .enum-told .given .1) (f .at-node))
+
+add-if1 : tie.Need-add-if1
+add-if1 c = omega (arith, node-known c .1 .inside)
+
+returns-2 : tie.Need-returns-2
+returns-2 c = broadcast-refused _ _ (λ f. omega (arith, c .if1 .taken, dashes-there _ _ _ (node-known (c .before) .1 .starts) f .long))
+
+add-same : tie.Need-add-same
+add-same c = search needs
 
 sub-same : tie.Need-sub-same
 sub-same c = search needs
@@ -89,83 +95,71 @@ slice-aggregate-same c = search needs
 same-requires : tie.Need-same-requires
 same-requires c κs = search needs
 
-returns-2 : tie.Need-returns-2
-returns-2 c = sym (broadcast-tail _ _ ∙ rw (dashes-missing c))
-
-sub-hex : tie.Need-sub-hex
-sub-hex c = search needs
-
-part-hex-start : tie.Need-part-hex-start
-part-hex-start c = search needs
-
-part-hex-end : tie.Need-part-hex-end
-part-hex-end c = search needs
-
-hex-requires : tie.Need-hex-requires
-hex-requires c κs = search needs
-
-enum-known-first : tie.Need-enum-known-first
-enum-known-first c = search needs
-
-enum-told : tie.Need-enum-told
-enum-told c = search needs
-
 returns-3 : tie.Need-returns-3
 returns-3 c =
-    sym (payload-decides (c .before .before .before .before) ∙ rw (long-known (long (c .before .before .before .before)), word-not _ (sym (c .before .before .hex .ensures) ∙ c .enum-told .given .1)))
+    let node = noded (c .before) in
+    broadcast-refused _ _ (λ f. true≢false (sym (dashes-there _ _ _ (node-known node .1 .starts) f .dashed) ∙ sym (dashes-tested (c .before)) ∙ not-true _ (c .if2 .taken)))
 
-sub-hex-2 : tie.Need-sub-hex-2
-sub-hex-2 c = search needs
+add-read-payload : tie.Need-add-read-payload
+add-read-payload c = search needs
 
-part-hex-start-2 : tie.Need-part-hex-start-2
-part-hex-start-2 c = search needs
+sub-read-payload : tie.Need-sub-read-payload
+sub-read-payload c = search needs
 
-part-hex-end-2 : tie.Need-part-hex-end-2
-part-hex-end-2 c = search needs
+part-read-payload-start : tie.Need-part-read-payload-start
+part-read-payload-start c = search needs
 
-hex-requires-2 : tie.Need-hex-requires-2
-hex-requires-2 c κs = search needs
+part-read-payload-end : tie.Need-part-read-payload-end
+part-read-payload-end c = search needs
 
-enum-known-second : tie.Need-enum-known-second
-enum-known-second c = search needs
+read-payload-requires : tie.Need-read-payload-requires
+read-payload-requires c κs = search needs
+
+enum-known-payload : tie.Need-enum-known-payload
+enum-known-payload c = search needs
 
 enum-told-2 : tie.Need-enum-told-2
 enum-told-2 c = search needs
 
 returns-4 : tie.Need-returns-4
-returns-4 c =
-    let left = c .before .before in
-    sym (word-decides left ∙ rw (word-not (take 16 (drop 22 (tail (long (dashed (half left)))))) (sym (left .hex2 .ensures) ∙ c .enum-told2 .given .1)))
+returns-4 c = broadcast-refused _ _ (λ f. payload-missing _ (payload-reader (c .before .before)) (c .enum-told2 .given .1) (f .payload))
+
+cast-t22 : tie.Need-cast-t22
+cast-t22 c = omega (arith, node-known (noded (dashed (c .before .before .before) .before)) .1 .within)
 
 returns-5 : tie.Need-returns-5
 returns-5 c =
-    let left = c .before .before .before in
-    let low = word-says (take 16 (drop 22 (tail (long (dashed (half left)))))) (c .before .second .given .0 .0) (sym (left .hex2 .ensures) ∙ c .before .second .given .1) in
-    sym (word-decides left ∙ rw (low .0, low .1))
+    let read = c .before .before .before in
+    let node = node-known (noded (dashed read .before)) in
+    let dashes = dashes-known (dashed read) in
+    let (digits, payload) = payload-read _ (payload-reader read) _ (c .before .payload .given .1) in
+    broadcast-row _ _ (node .1 .is) payload
+    (record { at-node = node .0; no-sender = dashes .no-sender; no-seq = dashes .no-seq; no-signers = dashes .no-signers; payload = digits })
 
 pub broadcast-spec : {M : Type 1} → statement M
 broadcast-spec =
     tie.close
     (tie.spec
+    read-node-requires
+    enum-known-node
+    enum-told
     returns
+    add-if1
+    returns-2
+    add-same
     sub-same
     part-same-start
     part-same-end
     slice-aggregate-same
     same-requires
-    returns-2
-    sub-hex
-    part-hex-start
-    part-hex-end
-    hex-requires
-    enum-known-first
-    enum-told
     returns-3
-    sub-hex-2
-    part-hex-start-2
-    part-hex-end-2
-    hex-requires-2
-    enum-known-second
+    add-read-payload
+    sub-read-payload
+    part-read-payload-start
+    part-read-payload-end
+    read-payload-requires
+    enum-known-payload
     enum-told-2
     returns-4
+    cast-t22
     returns-5)

@@ -5,36 +5,37 @@ use borrow.Author.Needs.{needs}
 use Rattle.run.proofs.feed.Statement.{statement}
 use Rattle.run.proofs.feed.Tie as tie
 
-sub-lines : tie.Need-sub-lines
-sub-lines c = search needs
+sub-feed-lines : tie.Need-sub-feed-lines
+sub-feed-lines c = search needs
 
-part-lines-start : tie.Need-part-lines-start
-part-lines-start c = search needs
+part-feed-lines-start : tie.Need-part-feed-lines-start
+part-feed-lines-start c = search needs
 
-part-lines-end : tie.Need-part-lines-end
-part-lines-end c = search needs
+part-feed-lines-end : tie.Need-part-feed-lines-end
+part-feed-lines-end c = search needs
 
-lines-requires : tie.Need-lines-requires
-lines-requires c κs = search needs
+feed-lines-requires : tie.Need-feed-lines-requires
+feed-lines-requires c κs = search needs
 
 returns : tie.Need-returns
 returns c = search needs
 
-lines-requires-2 : tie.Need-lines-requires-2
-lines-requires-2 c κs = search needs
+feed-lines-requires-2 : tie.Need-feed-lines-requires-2
+feed-lines-requires-2 c κs = search needs
 
 returns-2 : tie.Need-returns-2
 returns-2 c =
-    rw (take-all mostChunk (c .before .before .before .before .before .before .args .chunk .now) (c .before .before .before .before .if1 .left)) (c .lines2 .ensures)
+    let k = c .before .before .before .before in
+    rw (take-all mostChunk (k .before .before .args .chunk .now) (k .if1 .left)) (c .feed-lines2 .ensures)
 
 pub feed-spec : {M : Type 1} → statement M
 feed-spec =
     tie.close
     (tie.spec
-    sub-lines
-    part-lines-start
-    part-lines-end
-    lines-requires
+    sub-feed-lines
+    part-feed-lines-start
+    part-feed-lines-end
+    feed-lines-requires
     returns
-    lines-requires-2
+    feed-lines-requires-2
     returns-2)

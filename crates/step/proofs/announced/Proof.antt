@@ -2,7 +2,7 @@
 use native.Mathlib.Omega.{arith}
 use borrow.Author.Needs.{needs}
 use Rattle.text.specs.Text.{ascii, decimal, spelled}
-use Rattle.text.proofs.Wrote.{puts}
+use Rattle.text.proofs.WrittenTexts.{puts}
 use Rattle.step.proofs.announced.Statement.{statement}
 use Rattle.step.proofs.announced.Tie as tie
 

@@ -2,7 +2,7 @@
 use native.Mathlib.Omega.{arith}
 use borrow.Author.Needs.{needs}
 use Rattle.text.specs.Text.{ascii}
-use Rattle.text.proofs.Wrote.{puts, _then_}
+use Rattle.text.proofs.WrittenTexts.{puts, _then_}
 use Rattle.step.proofs.Answers.{count-length}
 use Rattle.step.proofs.counted.Statement.{statement}
 use Rattle.step.proofs.counted.Tie as tie

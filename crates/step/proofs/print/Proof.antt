@@ -4,8 +4,8 @@ use native.Mathlib.Omega.{arith}
 use borrow.Author.Needs.{needs}
 use Rattle.text.specs.Text.{ascii}
 use Rattle.step.specs.Step.{answered, actBy, stepText}
-use Rattle.text.proofs.Wrote.{puts, puts-all, _then_}
-use Rattle.step.proofs.Wrote.{printed, printed-not}
+use Rattle.text.proofs.WrittenTexts.{puts, puts-all, _then_}
+use Rattle.step.proofs.PrintedRows.{printed, printed-not}
 use Rattle.step.proofs.Answers.{act-by-length, front-room, step-length}
 use Rattle.step.proofs.print.Statement.{statement}
 use Rattle.step.proofs.print.Tie as tie
@@ -39,9 +39,9 @@ unfolding ascii
 announced-requires c κs =
     let node = c .before .before .before in
     let act = node .before .before .before .before in
-    let place = act .before .before .before .before .before .before .before .before in
-    let a = place .before .before .before .before .before .args in
-    front-room (a .place) (a .node) _ refl (puts (place .decimal .ensures)) (puts (act .put .ensures)) (puts (node .decimal2 .ensures)) (omega arith)
+    let ordinal = act .before .before .before .before .before .before .before .before in
+    let a = ordinal .before .before .before .before .before .args in
+    front-room (a .ordinal) (a .node) _ refl (puts (ordinal .decimal .ensures)) (puts (act .put .ensures)) (puts (node .decimal2 .ensures)) (omega arith)
 
 enum-known-answer-2 : tie.Need-enum-known-answer-2
 enum-known-answer-2 c = search needs
@@ -60,9 +60,9 @@ unfolding ascii
 received-requires c κs =
     let node = c .before .before .before in
     let act = node .before .before .before .before in
-    let place = act .before .before .before .before .before .before .before .before in
-    let a = place .before .before .before .before .before .args in
-    front-room (a .place) (a .node) _ refl (puts (place .decimal .ensures)) (puts (act .put2 .ensures)) (puts (node .decimal3 .ensures)) (omega arith)
+    let ordinal = act .before .before .before .before .before .before .before .before in
+    let a = ordinal .before .before .before .before .before .args in
+    front-room (a .ordinal) (a .node) _ refl (puts (ordinal .decimal .ensures)) (puts (act .put2 .ensures)) (puts (node .decimal3 .ensures)) (omega arith)
 
 same-length : tie.Need-same-length
 same-length c = search needs
@@ -74,12 +74,12 @@ returns-3 c =
     let node = answer .before .before .before .before in
     let act = node .before .before .before .before in
     let arm = act .before .before .before .before in
-    let place = arm .before .before .before .before in
-    let a = place .before .before .before .before .before .args in
-    let short = step-length (a .place) (a .node) (actBy (a .answer)) (act-by-length (a .answer)) (answered (a .answer)) in
+    let ordinal = arm .before .before .before .before in
+    let a = ordinal .before .before .before .before .before .args in
+    let short = step-length (a .ordinal) (a .node) (actBy (a .answer)) (act-by-length (a .answer)) (answered (a .answer)) in
     printed (a .at) _ (a .out .now) _ _ short (omega arith)
     (rw (arm .answer .given .1)
-    (puts (place .decimal .ensures) then puts (act .put .ensures) then puts (node .decimal2 .ensures) then puts-all (answer .announced .ensures)))
+    (puts (ordinal .decimal .ensures) then puts (act .put .ensures) then puts (node .decimal2 .ensures) then puts-all (answer .announced .ensures)))
 
 same-length-2 : tie.Need-same-length-2
 same-length-2 c = search needs
@@ -91,12 +91,12 @@ returns-4 c =
     let node = answer .before .before .before .before in
     let act = node .before .before .before .before in
     let arm = act .before .before .before .before in
-    let place = arm .before .before .before .before in
-    let a = place .before .before .before .before .before .args in
-    let short = step-length (a .place) (a .node) (actBy (a .answer)) (act-by-length (a .answer)) (answered (a .answer)) in
+    let ordinal = arm .before .before .before .before in
+    let a = ordinal .before .before .before .before .before .args in
+    let short = step-length (a .ordinal) (a .node) (actBy (a .answer)) (act-by-length (a .answer)) (answered (a .answer)) in
     printed (a .at) _ (a .out .now) _ _ short (omega arith)
     (rw (arm .answer2 .given .1)
-    (puts (place .decimal .ensures) then puts (act .put2 .ensures) then puts (node .decimal3 .ensures) then puts-all (answer .received .ensures)))
+    (puts (ordinal .decimal .ensures) then puts (act .put2 .ensures) then puts (node .decimal3 .ensures) then puts-all (answer .received .ensures)))
 
 pub print-spec : {M : Type 1} → statement M
 print-spec =

@@ -3,8 +3,8 @@ use native.Mathlib.Omega.{arith}
 use borrow.Author.Needs.{needs}
 use Rattle.text.specs.Text.{ascii}
 use Rattle.step.specs.Step.{unreadText}
-use Rattle.text.proofs.Wrote.{puts, _then_}
-use Rattle.step.proofs.Wrote.{printed, printed-not}
+use Rattle.text.proofs.WrittenTexts.{puts, _then_}
+use Rattle.step.proofs.PrintedRows.{printed, printed-not}
 use Rattle.step.proofs.Answers.{unread-length}
 use Rattle.step.proofs.print_unread.Statement.{statement}
 use Rattle.step.proofs.print_unread.Tie as tie
@@ -33,9 +33,9 @@ same-length c = search needs
 returns-3 : tie.Need-returns-3
 unfolding unreadText ascii
 returns-3 c =
-    let place = c .before .before .before .before .before .before .before in
-    let a = place .before .before .before .before .before .args in
-    printed (a .at) _ (a .out .now) _ _ (unread-length (a .place)) (omega arith) (puts (place .decimal .ensures) then puts (c .before .before .put .ensures))
+    let ordinal = c .before .before .before .before .before .before .before in
+    let a = ordinal .before .before .before .before .before .args in
+    printed (a .at) _ (a .out .now) _ _ (unread-length (a .ordinal)) (omega arith) (puts (ordinal .decimal .ensures) then puts (c .before .before .put .ensures))
 
 pub print-unread-spec : {M : Type 1} → statement M
 print-unread-spec =

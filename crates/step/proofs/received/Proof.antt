@@ -2,9 +2,9 @@
 use native.Mathlib.Omega.{arith}
 use borrow.Author.Needs.{needs}
 use Rattle.refusal.specs.Outcome.{done}
-use Rattle.protocol.specs.Slot.{kept, signed, delivered}
+use Rattle.protocol.specs.Update.{kept, signed, delivered}
 use Rattle.text.specs.Text.{ascii}
-use Rattle.text.proofs.Wrote.{puts, puts-all, room-left, _then_}
+use Rattle.text.proofs.WrittenTexts.{puts, puts-all, room-left, _then_}
 use Rattle.step.proofs.Answers.{answer-wrote}
 use Rattle.step.proofs.received.Statement.{statement}
 use Rattle.step.proofs.received.Tie as tie

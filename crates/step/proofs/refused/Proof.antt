@@ -3,7 +3,7 @@ use native.Mathlib.Omega.{arith}
 use borrow.Author.Needs.{needs}
 use Rattle.refusal.specs.Outcome.{refused}
 use Rattle.text.specs.Text.{ascii}
-use Rattle.text.proofs.Wrote.{puts, _then_}
+use Rattle.text.proofs.WrittenTexts.{puts, _then_}
 use Rattle.step.proofs.Answers.{answer-wrote}
 use Rattle.step.proofs.refused.Statement.{statement}
 use Rattle.step.proofs.refused.Tie as tie

@@ -1,7 +1,7 @@
 -- `digits` meets its contract: each turn counts the digit that it takes away. Assumes nothing.
 use native.Mathlib.Omega.{arith}
 use borrow.Author.Needs.{needs}
-use Rattle.text.proofs.Spelled.{Counted, counted-one, counted-more, counted-all}
+use Rattle.text.proofs.DecimalDigits.{Counted, counted-one, counted-more, counted-all}
 use Rattle.text.proofs.digits.Statement.{statement}
 use Rattle.text.proofs.digits.Tie as tie
 

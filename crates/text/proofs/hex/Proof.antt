@@ -11,16 +11,16 @@ use lib.ListN.{length, getD, take}
 use lib.Seq.{length-take-le, take-all}
 use borrow.Author.Tests.{eq-eqb, eqb-true}
 use Rattle.text.specs.declared.Word.the-variants.{Hex, NotHex}
-use Rattle.text.specs.Text.{only, digit, hexDigit, worth, hex, wordIn}
+use Rattle.text.specs.Text.{only, digit, hexDigit, digitValue, hex, wordIn}
 use Rattle.text.specs.Text as spec
 use Rattle.text.proofs.Fields.{only-says, only-more}
-use Rattle.text.proofs.Values.{hex-worth, hex-fits, value-more}
+use Rattle.text.proofs.DigitValues.{hex-digit-lt, hex-fits, value-more}
 use Rattle.text.proofs.hex.Statement.{statement}
 use Rattle.text.proofs.hex.Tie as tie
 
 -- what the table has for a byte, and n entries of it from byte i on
 entry : ℕ → ℕ
-entry b = cond (hexDigit b) (worth b) 16
+entry b = cond (hexDigit b) (digitValue b) 16
 
 entries : ℕ → ℕ → List ℕ
 entries i zero = []
@@ -32,20 +32,20 @@ entries-at zero i k h = absurd (omega arith)
 entries-at (suc n) i zero h = ap entry (sym (add-zero i))
 entries-at (suc n) i (suc k) h = entries-at n (suc i) k (omega arith) ∙ ap entry (suc-add i k ∙ sym (add-suc i k))
 
--- an entry of 16 or more is that of no digit, and one below is a digit's worth
+-- an entry of 16 or more is that of no digit, and one below is a digit's value
 entry-none : (b : ℕ) → 16 ≤ entry b → hexDigit b ≡ false
 unfolding entry
 entry-none b h = go (hexDigit b) refl h
   where
-    go : (t : Bool) → hexDigit b ≡ t → 16 ≤ cond t (worth b) 16 → t ≡ false
-    go true e h = absurd (omega (arith, hex-worth b e))
+    go : (t : Bool) → hexDigit b ≡ t → 16 ≤ cond t (digitValue b) 16 → t ≡ false
+    go true e h = absurd (omega (arith, hex-digit-lt b e))
     go false e h = refl
 
-entry-digit : (b : ℕ) → entry b < 16 → (hexDigit b ≡ true) × (entry b ≡ worth b)
+entry-digit : (b : ℕ) → entry b < 16 → (hexDigit b ≡ true) × (entry b ≡ digitValue b)
 unfolding entry
 entry-digit b h = go (hexDigit b) refl h
   where
-    go : (t : Bool) → hexDigit b ≡ t → cond t (worth b) 16 < 16 → (t ≡ true) × (cond t (worth b) 16 ≡ worth b)
+    go : (t : Bool) → hexDigit b ≡ t → cond t (digitValue b) 16 < 16 → (t ≡ true) × (cond t (digitValue b) 16 ≡ digitValue b)
     go true e h = (refl, refl)
     go false e h = absurd (omega arith)
 
@@ -111,13 +111,13 @@ looked-up : (c : tie.After-shared-slice-known Inv-loop μ-loop) → getD (entrie
 looked-up c = entries-at 256 0 (byte c) (c .shared-slice-known .given (c .before .before .loop .i) .fits) ∙ ap entry (zero-add (byte c))
 
 returns-2 : tie.Need-returns-2 Inv-loop μ-loop
-unfolding entries entry hexDigit digit worth
+unfolding entries entry hexDigit digit digitValue
 returns-2 c =
     no-digit _ (c .before .before .before .loop .i) (omega arith) (entry-none (byte (c .before)) (rw (looked-up (c .before)) at (c .if2 .taken)))
 
 -- and that it is a digit where the entry is below 16
-digit-read : (c : tie.Else2 Inv-loop μ-loop) → (hexDigit (byte (c .before)) ≡ true) × (getD (entries 0 256) (byte (c .before)) 0 ≡ worth (byte (c .before)))
-unfolding entries entry hexDigit digit worth
+digit-read : (c : tie.Else2 Inv-loop μ-loop) → (hexDigit (byte (c .before)) ≡ true) × (getD (entries 0 256) (byte (c .before)) 0 ≡ digitValue (byte (c .before)))
+unfolding entries entry hexDigit digit digitValue
 digit-read c =
     let (is, same) = entry-digit (byte (c .before)) (rw (looked-up (c .before)) at (c .if2 .left)) in
     (is, looked-up (c .before) ∙ same)
@@ -145,7 +145,7 @@ loop-less : tie.Need-loop-less Inv-loop μ-loop
 loop-less c = omega arith
 
 loop-again : tie.Need-loop-again Inv-loop μ-loop
-unfolding entries entry hexDigit digit worth
+unfolding entries entry hexDigit digit digitValue
 loop-again c =
     let at = c .before .before .before in
     let xs = at .before .before .args .text .now in

@@ -7,7 +7,7 @@ use lib.ListN.{length, take, length-set}
 use lib.Seq.{take-all}
 use borrow.Author.Needs.{needs}
 use Rattle.text.specs.Text.{written}
-use Rattle.text.proofs.Written.{written-not, end-not, end-of, written-empty, written-more}
+use Rattle.text.proofs.WriteLaws.{written-not, end-not, end-of, written-empty, written-more}
 use Rattle.text.proofs.put.Statement.{statement}
 use Rattle.text.proofs.put.Tie as tie
 

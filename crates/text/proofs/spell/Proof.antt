@@ -5,7 +5,7 @@ use native.Mathlib.Omega.{arith}
 use lib.ListN.{length, length-set}
 use borrow.Author.Needs.{needs}
 use Rattle.text.specs.Text.{written}
-use Rattle.text.proofs.Spelled.{lastDigits, written-last, written-none, written-digits}
+use Rattle.text.proofs.DecimalDigits.{lastDigits, written-last, written-none, written-digits}
 use Rattle.text.proofs.spell.Statement.{statement}
 use Rattle.text.proofs.spell.Tie as tie
 

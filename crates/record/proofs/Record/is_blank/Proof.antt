@@ -5,15 +5,22 @@ use native.Mathlib.Omega.{arith}
 use lib.Dec.{eqb}
 use borrow.Author.Tests.{eq-eqb, ne-eqb}
 use Rattle.octets.specs.Octets.{blank}
-use Rattle.octets.proofs.Same.{blank-words}
 use Rattle.record.specs.Record.{bytes}
+use Rattle.record.proofs.Words.{Fits, blank-words}
 use Rattle.record.proofs.Record.is_blank.Statement.{statement}
 use Rattle.record.proofs.Record.is_blank.Tie as tie
 
--- the record's bytes are zero where its four words are
-by-words : (c : tie.Start) → blank (bytes (c .args .self)) ≡ (eqb (c .args .self .head) 0 && (eqb (c .args .self .signers) 0 && (eqb (c .args .self .high) 0 && eqb (c .args .self .low) 0)))
-unfolding bytes
-by-words c = blank-words (c .args .self .head) (c .args .self .signers) (c .args .self .high) (c .args .self .low) (omega arith) (omega arith) (omega arith) (omega arith)
+-- each word fits, as its type says
+words-fit : (c : tie.Start) → Fits (c .args .self)
+words-fit c =
+    record
+    { head-fits = omega arith; signers-fits = omega arith; payload-fits = record { high-fits = omega arith; low-fits = omega arith } }
+
+-- the record's bytes are zero where its words are
+by-words : (c : tie.Start)
+    → blank (bytes (c .args .self))
+    ≡ (eqb (c .args .self .head) 0 && (eqb (c .args .self .signers) 0 && (eqb (c .args .self .payload .high) 0 && eqb (c .args .self .payload .low) 0)))
+by-words c = blank-words (c .args .self) (words-fit c)
 
 -- ---- the needs
 

@@ -1,28 +1,40 @@
--- `receive` meets its contract: an unsound record refuses the bundle, and a sound one is updated. Assumes nothing.
+-- `receive` meets its contract: a malformed record refuses the bundle, and a well-formed one is updated. Assumes nothing.
 use mathlib.Core.Path.{sym, ap, _∙_}
 use native.Mathlib.Omega.{arith}
 use borrow.Author.Tests.{not-true, not-false}
-use Rattle.record.specs.Record.{imaged}
-use Rattle.record.proofs.Words.{sound-stated}
-use Rattle.record.proofs.Updated.{received-malformed, received-sound, step-refused}
+use Rattle.record.specs.Record.{encodedUpdate}
+use Rattle.record.proofs.Words.{Fits}
+use Rattle.record.proofs.WellFormed.{well-formed-has-state}
+use Rattle.record.proofs.UpdateCases.{received-malformed, received-well-formed, encoded-refused}
 use borrow.Author.Needs.{needs}
 use Rattle.record.proofs.Record.receive.Statement.{statement}
 use Rattle.record.proofs.Record.receive.Tie as tie
 use Rattle.record.proofs.Record.update.Reads as update-reads
 use Rattle.record.proofs.Record.well_formed.Reads as well-formed-reads
 
+-- each word fits, as its type says
+words-fit : (c : tie.Start) → Fits (c .args .self)
+words-fit c =
+    record
+    { head-fits = omega arith; signers-fits = omega arith; payload-fits = record { high-fits = omega arith; low-fits = omega arith } }
+
+abbrev start : tie.Else1 → tie.Start
+start c = c .before .before
+
+-- ---- the needs
+
 well-formed-requires : tie.Need-well-formed-requires
 well-formed-requires c κs = search needs
 
 returns : tie.Need-returns
-returns c = step-refused _ _ (received-malformed _ _ _ _ _ (sym (c .before .well-formed .ensures) ∙ not-true _ (c .if1 .taken)))
+returns c = encoded-refused _ _ (received-malformed _ _ _ _ _ (sym (c .before .well-formed .ensures) ∙ not-true _ (c .if1 .taken)))
 
 update-requires : tie.Need-update-requires
 update-requires c κs =
-    sound-stated (c .before .before .args .self) (omega arith) (c .before .before .args .config) (c .before .before .args .sender) (omega arith) (sym (c .before .well-formed .ensures) ∙ not-false _ (c .if1 .left))
+    well-formed-has-state (start c .args .self) (words-fit (start c)) (start c .args .config) (start c .args .sender) (sym (c .before .well-formed .ensures) ∙ not-false _ (c .if1 .left))
 
 returns-2 : tie.Need-returns-2
-returns-2 c = c .update .ensures ∙ sym (ap imaged (received-sound _ _ _ _ _ (sym (c .before .before .well-formed .ensures) ∙ not-false _ (c .before .if1 .left))))
+returns-2 c = c .update .ensures ∙ sym (ap encodedUpdate (received-well-formed _ _ _ _ _ (sym (c .before .before .well-formed .ensures) ∙ not-false _ (c .before .if1 .left))))
 
 pub receive-spec : {M : Type 1} → statement M
 receive-spec = tie.close (tie.spec well-formed-requires returns update-requires returns-2)

@@ -1,7 +1,7 @@
--- `well_formed` meets its contract: it is `well_formed_by` for the table's sets and quorum. Assumes nothing.
-use mathlib.Core.Path.{_∙_}
+-- `well_formed` meets its contract: it is `well_formed_by` for the sets and the quorum of the configuration. Assumes nothing.
 use native.Mathlib.Omega.{arith}
-use Rattle.record.proofs.Words.{well-formed-by}
+use Rattle.record.proofs.Words.{Fits}
+use Rattle.record.proofs.WellFormed.{well-formed-by}
 use borrow.Author.Needs.{needs}
 use Rattle.record.proofs.Record.well_formed.Statement.{statement}
 use Rattle.record.proofs.Record.well_formed.Tie as tie
@@ -9,6 +9,17 @@ use Rattle.config.proofs.Config.quorum.Reads as quorum-reads
 use Rattle.record.proofs.Record.well_formed_by.Reads as well-formed-by-reads
 use Rattle.signers.proofs.below.Reads as below-reads
 use Rattle.signers.proofs.insert.Reads as insert-reads
+
+-- each word fits, as its type says
+words-fit : (c : tie.Start) → Fits (c .args .self)
+words-fit c =
+    record
+    { head-fits = omega arith; signers-fits = omega arith; payload-fits = record { high-fits = omega arith; low-fits = omega arith } }
+
+abbrev start : tie.After-well-formed-by → tie.Start
+start c = c .before .before .before .before .before
+
+-- ---- the needs
 
 below-requires : tie.Need-below-requires
 below-requires c κs = search needs
@@ -26,10 +37,7 @@ well-formed-by-requires : tie.Need-well-formed-by-requires
 well-formed-by-requires c κs = search needs
 
 returns : tie.Need-returns
-returns c =
-    c .well-formed-by .ensures
-    ∙ rw (c .before .before .before .before .below .ensures, c .before .before .before .quorum .ensures, c .before .before .insert .ensures, c .before .insert2 .ensures)
-    (well-formed-by (c .before .before .before .before .before .args .self) (omega arith) (c .before .before .before .before .before .args .config) (c .before .before .before .before .before .args .sender) (omega arith) (omega arith) (omega arith))
+returns c = cc (well-formed-by (start c .args .self) (words-fit (start c)) (start c .args .config) (start c .args .sender))
 
 pub well-formed-spec : {M : Type 1} → statement M
 well-formed-spec =

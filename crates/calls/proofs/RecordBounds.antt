@@ -1,0 +1,59 @@
+-- Where a record lies in the day's buffer: within it, so that it can be borrowed as a part, loaded and stored.
+-- Assumes nothing.
+use mathlib.Core.Path.{_≡_, _∙_}
+use mathlib.Core.Bool.{true, cond}
+use lib.Dec.{eqb, lit<}
+use mathlib.Core.List.{List, _++_}
+use Prim.Native.Nat.{ℕ, _+_, _-_, _*_, _≤_, _<_}
+use native.Mathlib.Omega.{arith}
+use lib.ListN.{length, take, drop}
+use lib.Seq.{drop-drop}
+use borrow.Author.Tests.{eq-eqb}
+use Rattle.octets.specs.Octets.{part}
+use Rattle.octets.proofs.Numbers.{length-part}
+use Rattle.config.specs.declared.Config.{Config}
+use Rattle.config.specs.Config.{good, inRange, place, recordSize, recordsSize, slots, slotOfDay}
+use Rattle.config.proofs.Laws.{good-says, place-is, in-range}
+use Rattle.record.specs.Record.{loaded}
+use Rattle.config.specs.declared.Slot.{Slot}
+use Rattle.calls.specs.Records.{stored, ownSlot, recordAt}
+
+-- a part of 32 bytes is loaded as it is
+pub loaded-part : (xs : List ℕ) (i : ℕ) → i + recordSize ≤ length xs → loaded (take (i + recordSize - i) (drop i xs)) ≡ part i recordSize xs
+unfolding loaded
+loaded-part xs i h =
+    let k : i + recordSize - i ≡ recordSize = omega arith in
+    rw (k, eq-eqb (length (part i recordSize xs)) recordSize (length-part xs i recordSize h))
+
+-- and what is stored over it stands in its place
+pub stored-part : (xs ys bytes : List ℕ) (i : ℕ) → i + recordSize ≤ length xs
+    → ys ≡ cond (eqb (length (take (i + recordSize - i) (drop i xs))) recordSize) bytes (take (i + recordSize - i) (drop i xs))
+    → take i xs ++ (ys ++ drop (i + recordSize - i) (drop i xs)) ≡ take i xs ++ (bytes ++ drop (i + recordSize) xs)
+stored-part xs ys bytes i h e =
+    let k : i + recordSize - i ≡ recordSize = omega arith in
+    let whole = eq-eqb (length (part i recordSize xs)) recordSize (length-part xs i recordSize h) in
+    let new : ys ≡ bytes = e ∙ rw (k, whole) in
+    rw (new, k, drop-drop recordSize i xs)
+
+-- our own sixteen records lie within the buffer
+pub own-range : (config : Config) (seq : ℕ) → good config ≡ true → seq < slots → inRange config (ownSlot config seq) ≡ true
+unfolding slotOfDay
+own-range config seq g k = in-range config (ownSlot config seq) (good-says config g .known) k
+
+pub own-room : (config : Config) (records : List ℕ) → good config ≡ true → length records ≡ recordsSize config
+    → place config (ownSlot config 0) + recordSize * slots ≤ length records
+unfolding recordsSize slotOfDay
+own-room config records g l =
+    let known = good-says config g .known in
+    rw (l, place-is config (ownSlot config 0) g (own-range config 0 g (lit< tt))) (omega arith)
+
+-- where each of them starts
+pub own-place : (config : Config) (seq : ℕ) → good config ≡ true → seq < slots → place config (ownSlot config seq) ≡ place config (ownSlot config 0) + recordSize * seq
+unfolding slotOfDay
+own-place config seq g k =
+    rw (place-is config (ownSlot config seq) g (own-range config seq g k), place-is config (ownSlot config 0) g (own-range config 0 g (lit< tt))) (omega arith)
+
+-- the record of a slot is the one at its place
+pub record-at : (config : Config) (slot : Slot) (records : List ℕ) (start : ℕ) → start ≡ place config slot → part start recordSize records ≡ recordAt config slot records
+unfolding recordAt
+record-at config slot records start e = rw e

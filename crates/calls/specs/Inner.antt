@@ -1,0 +1,57 @@
+-- What the private functions of this crate promise each other: what becomes of a record that received a bundle, given by its answer and the bytes that
+-- it then has, and the search over the rest of our records. No public contract rests on these; a reader may pass them over.
+-- Assumes nothing.
+use mathlib.Core.Path.{_≡_}
+use mathlib.Core.Bool.{cond}
+use mathlib.Core.List.{List}
+use Prim.Native.Nat.{ℕ, zero, suc, _-_, _/_}
+use lib.Dec.{eqb, ltb}
+use lib.ListN.{length, take, drop}
+use Rattle.octets.specs.Octets.{blank}
+use Rattle.signers.specs.Signers as signers
+use Rattle.signers.specs.Signers.{below, insert}
+use Rattle.refusal.specs.Outcome.{Outcome, refused, done, after, _and-then_}
+use Rattle.config.specs.declared.Config.{Config}
+use Rattle.config.specs.declared.Slot.{Slot}
+use Rattle.config.specs.Config.{quorum, slots, recordSize}
+use Rattle.bundle.specs.Bundle.{bundleOf, headerOf}
+use Rattle.protocol.specs.Update.{Answer, sends}
+use Rattle.record.specs.Record.{signersField, payloadField, wellFormed}
+use Rattle.calls.specs.Records.{replaced}
+
+-- the bundle of a record, given by its bytes
+unfoldable pub sent : Slot → (bytes : List ℕ) → List ℕ
+sent slot bytes = bundleOf (headerOf slot (signersField bytes)) (payloadField bytes)
+
+unfoldable pub settledReceipt : Outcome (Answer × List ℕ) → Outcome (Answer × ℕ)
+settledReceipt received = received and-then (λ result. done (result .0, signers.size (signersField (result .1))))
+
+unfoldable pub settledRecords : ℕ → Outcome (Answer × List ℕ) → List ℕ → List ℕ
+settledRecords start received records = after received (λ result. replaced start (result .1) records) records
+
+unfoldable pub settledOut : Slot → Outcome (Answer × List ℕ) → (out : List ℕ) → List ℕ
+settledOut slot received out = after received (λ result. cond (sends (result .0)) (sent slot (result .1)) out) out
+
+-- sets and quorum are those of the table
+abbrev pub SetsOf : Config → ℕ → ℕ → ℕ → Type 0
+SetsOf config all q ours = (all ≡ below (config .n)) × ((q ≡ quorum config) × (ours ≡ insert 0 (config .own)))
+
+-- the search over the last `left` of our records: it looks at one and then at those after it
+unfoldable pub scanned : Config → List ℕ → ℕ → Outcome ℕ
+scanned config rest zero = refused 25
+scanned config rest (suc left) =
+    cond (blank (take recordSize rest)) (done (slots - suc left))
+    (cond (wellFormed config (config .own) (take recordSize rest)) (scanned config (drop recordSize rest) left) (refused 21))
+
+-- what is found, as a number: below 16 it is that of a record, 16 is for none, 17 for a malformed one
+unfoldable pub foundOf : ℕ → Outcome ℕ
+foundOf number = cond (ltb number slots) (done number) (cond (eqb number slots) (refused 25) (refused 21))
+
+-- for a table with these sets and this quorum, it is what the search over all that is left finds
+abbrev pub Found : ℕ → ℕ → ℕ → List ℕ → ℕ → Type 0
+Found all q ours rest number = (config : Config) → SetsOf config all q ours → foundOf number ≡ scanned config rest (length rest / recordSize)
+
+-- the number of a refusal; 1 where there is none
+abbrev pub numberIn : {A : Type 0} → Outcome A → ℕ
+numberIn (refused number) = number
+numberIn (done result) = 1

@@ -1,0 +1,55 @@
+-- What the calls keep from one to the next: that records are well-formed, and that what was delivered is shown. They are proved in proofs/Preserved.antt.
+-- Assumes nothing.
+use mathlib.Core.Path.{_≡_}
+use mathlib.Core.Bool.{true}
+use mathlib.Core.List.{List}
+use Prim.Native.Nat.{ℕ, _+_, _<_}
+use lib.ListN.{length}
+use Rattle.refusal.specs.Outcome.{done}
+use Rattle.config.specs.declared.Config.{Config}
+use Rattle.config.specs.declared.Slot.{Slot}
+use Rattle.config.specs.Config.{good, inRange, place, recordsSize}
+use Rattle.bundle.specs.declared.Header.{Header}
+use Rattle.bundle.specs.Bundle.{read, payloadPart, slotOf}
+use Rattle.protocol.specs.Update.{delivers, Update}
+use Rattle.record.specs.Record.{wellFormed, payloadAt}
+use Rattle.calls.specs.Records.{recordAt}
+use Rattle.calls.specs.Open.{openRecords}
+use Rattle.calls.specs.Broadcast.{broadcastRecords}
+use Rattle.calls.specs.Receive.{receive, receiveRecords}
+use Rattle.calls.specs.Showing.{delivered, deliveredPart}
+
+-- the record of every slot is well-formed
+abbrev pub AllWellFormed : Config → (records : List ℕ) → Type 0
+AllWellFormed config records = (slot : Slot) → inRange config slot ≡ true → wellFormed config (slot .sender) (recordAt config slot records) ≡ true
+
+-- two buffers in which a slot is shown alike
+abbrev pub SameShown : Config → Slot → (first second : List ℕ) → Type 0
+SameShown config slot first second =
+    (delivered config slot first ≡ delivered config slot second) × (deliveredPart config slot first ≡ deliveredPart config slot second)
+
+-- Opening makes every record well-formed, which document 01 calls sound, and broadcasting and receiving leave every record well-formed that was, in a
+-- buffer of its length: at a node that opened its day 21 has no cause.
+abbrev pub CallsKeepWellFormed : Type 0
+CallsKeepWellFormed =
+    (config : Config) (records : List ℕ) → good config ≡ true → length records ≡ recordsSize config
+    → (AllWellFormed config (openRecords config records) × (length (openRecords config records) ≡ length records))
+    × ((payload out : List ℕ) → AllWellFormed config records
+    → AllWellFormed config (broadcastRecords config payload records out) × (length (broadcastRecords config payload records out) ≡ length records))
+    × ((bundle out : List ℕ) → AllWellFormed config records
+    → AllWellFormed config (receiveRecords config bundle records out) × (length (receiveRecords config bundle records out) ≡ length records))
+
+-- "Showing gives the delivered body": after a receive that is answered delivered, showing its slot gives the payload of the bundle given.
+abbrev pub DeliveredIsShown : Type 0
+DeliveredIsShown =
+    (config : Config) (bundle records out : List ℕ) (h : Header) (result : Update)
+    → read config bundle ≡ done h → receive config bundle records out ≡ done result → delivers (result .answer) ≡ true
+    → (delivered config (slotOf h) (receiveRecords config bundle records out) ≡ done (place config (slotOf h) + payloadAt))
+    × (deliveredPart config (slotOf h) (receiveRecords config bundle records out) ≡ payloadPart config bundle)
+
+-- And it stays shown: broadcasting and receiving leave what showing answers and gives.
+abbrev pub ShownStays : Type 0
+ShownStays =
+    (config : Config) (records : List ℕ) (slot : Slot) (start : ℕ) → delivered config slot records ≡ done start
+    → ((payload out : List ℕ) → SameShown config slot (broadcastRecords config payload records out) records)
+    × ((bundle out : List ℕ) → SameShown config slot (receiveRecords config bundle records out) records)
