@@ -1,17 +1,16 @@
 -- What reading and writing accept and refuse, and that an answer is known by the paper's number and values.
 -- Assumes nothing.
 use mathlib.Core.Path.{_≡_, _∙_, sym, ap}
-use mathlib.Core.Bool.{true, false, and-eq-true-iff}
+use mathlib.Core.Bool.{true, false, and-eq-true-iff, or-false}
 use mathlib.Core.List.{List, []}
 use Prim.Native.Nat.{ℕ}
-use native.Mathlib.Omega.{arith}
 use borrow.Author.Tests.{eqb-true, eq-eqb, ne-eqb, not-true, not-false}
 use lib.ListN.{length, getD}
 use Rattle.signers.specs.Signers.{member}
 use Rattle.refusal.specs.Outcome.{refused, done, unless}
 use Rattle.refusal.specs.Refusal.{numberOf}
 use Rattle.refusal.proofs.Unique.{number-one, refused-number}
-use Rattle.refusal.proofs.Reasons.{passed, refused-not-done, Clear, pass, stop, done-clear, clear-done, append-clear, clear-append, refused-first, done-first, refused-later, refused-last}
+use Rattle.refusal.proofs.Reasons.{passed, refused-not-done, Clear, pass, stop, done-clear, clear-done, append-clear, clear-append, refused-first, done-first, refused-asked}
 use Rattle.payload.specs.Payload.{payloadSize}
 use Rattle.config.specs.declared.Config.{Config}
 use Rattle.config.specs.Config.{good}
@@ -139,12 +138,4 @@ module _ (config : Config) (sender seq signers : ℕ) (payload out : List ℕ) w
 pub unsigned-says : (config : Config) (bundle : List ℕ) → read config bundle ≡ refused 8 → member (headerIn bundle .signers) (headerIn bundle .sender) ≡ false
 unfolding read readReasons headerReasons
 unsigned-says config bundle e =
-    not-true _
-    (refused-last 8 _ _
-    (refused-later 7 8 _ _ _ (λ q. omega arith)
-    (refused-later 6 8 _ _ _ (λ q. omega arith)
-    (refused-later 5 8 _ _ _ (λ q. omega arith)
-    (refused-later 4 8 _ _ _ (λ q. omega arith)
-    (refused-later 3 8 _ _ _ (λ q. omega arith)
-    (refused-later 2 8 _ _ _ (λ q. omega arith)
-    (refused-later 1 8 _ _ _ (λ q. omega arith) e))))))))
+    not-true _ (sym (or-false _) ∙ refused-asked (readReasons config bundle) (headerIn bundle) 8 e)

@@ -2,4 +2,5 @@
 pub mod Fields
 pub mod Accepted
 pub mod RoundTrip
+pub mod Refusals
 pub mod Example

@@ -81,7 +81,7 @@ emptyStart = 0
 unfoldable pub payloadPlace : Config → (bundle : List ℕ) → ℕ
 payloadPlace config bundle = after (read config bundle) (λ h. payloadStart) emptyStart
 
--- the payload's bytes as a value is loaded from them; of a slice that is no bundle, zeros
+-- the payload's bytes as a value is loaded from them; of a slice that has not a bundle's length, zeros
 unfoldable pub payloadLoaded : (bundle : List ℕ) → List ℕ
 payloadLoaded bundle = cond (eqb (length bundle) bundleSize) (payloadIn bundle) (replicate payloadSize 0)
 
@@ -102,6 +102,10 @@ module _ (config : Config) (sender seq signers : ℕ) (payload out : List ℕ) w
   -- "Writing takes sender, number, signers and body; the day comes from the table." It gives the bytes written over `out`.
   unfoldable pub write : Outcome (List ℕ)
   write = unless writeReasons (bundleOf (headerOfDay config sender seq signers) payload)
+
+  -- the outgoing bytes afterwards
+  abbrev pub writeOut : List ℕ
+  writeOut = after write (λ bytes. bytes) out
 
 -- what a buffer holds after a bundle is written over it, if it has a bundle's length
 unfoldable pub encoded : Header → (payload out : List ℕ) → List ℕ

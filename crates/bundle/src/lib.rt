@@ -1,7 +1,7 @@
 // Reading and writing a bundle: the 32 bytes in which nodes send each other a signed payload.
 //
-// Every call is defined for all bytes, lengths and numbers, and refuses by the first reason of
-// document 01 that applies.
+// Every function is defined for all bytes, lengths and numbers. Reading and writing refuse by the first
+// reason of document 01 that applies; `load_payload` and `encode` check nothing but the length.
 use config::Config;
 use payload::Payload;
 use refusal::Refusal;
@@ -13,7 +13,7 @@ ghost use Rattle.payload.specs.Payload.{bytes};
 ghost use Rattle.refusal.specs.Refusal.{verdictOf};
 ghost use Rattle.refusal.specs.Outcome.{unless, after, plain};
 ghost use Rattle.config.specs.Config.{good};
-ghost use Rattle.bundle.specs.Bundle.{encoded, headerReasons, read as readOf, readingOf, payloadPart, payloadPlace, payloadLoaded, write as writeOf};
+ghost use Rattle.bundle.specs.Bundle.{encoded, headerReasons, read as readOf, readingOf, payloadPart, payloadPlace, payloadLoaded, write as writeOf, writeOut};
 
 // A bundle's bytes.
 pub const SIZE: usize = 32;
@@ -75,8 +75,8 @@ pub fn payload(config: Config, bundle: &[u8]) -> &[u8]
     }
 }
 
-// The payload as a value, of a bundle that `read` accepts. For a slice of another length it is the payload of
-// zeros.
+// The payload of a bundle as a value; whether `read` accepts the bundle is not asked. For a slice of another
+// length it is the payload of zeros.
 pub fn load_payload(bundle: &[u8]) -> Payload
     ensures { λ r. ⌜ bytes r ≡ payloadLoaded (now (bundle .entry)) ⌝ }
 {
@@ -96,7 +96,7 @@ pub fn write(
     out: &mut [u8],
 ) -> Verdict
     ensures { λ r. ⌜ verdictOf r ≡ plain (writeOf config sender seq signers (now (payload .entry)) (now (out .entry))) ⌝ }
-    ensures { λ _. ⌜ now (out .exit) ≡ after (writeOf config sender seq signers (now (payload .entry)) (now (out .entry))) (λ bytes. bytes) (now (out .entry)) ⌝ }
+    ensures { λ _. ⌜ now (out .exit) ≡ writeOut config sender seq signers (now (payload .entry)) (now (out .entry)) ⌝ }
 {
     if !config.good() {
         return Verdict::Refused(Refusal::BadConfig);

@@ -12,12 +12,12 @@ use Rattle.config.specs.Config.{good, quorum, recordSize, recordsSize, inRange,
 use Rattle.config.proofs.Laws.{good-says, quorum-strict}
 use Rattle.bundle.specs.Bundle.{payloadIn, headerIn, payloadPart, slotOf, slotIn}
 use Rattle.bundle.proofs.Accepted.{unsigned-says}
-use Rattle.protocol.specs.Update.{Record, Empty, sends, Update, announcedBy}
+use Rattle.protocol.specs.Update.{Record, Empty, Held, Delivered, sends, Update, announcedBy}
 use Rattle.protocol.specs.Algorithm as algorithm
 use Rattle.protocol.proofs.WellFormed.{WellFormed, well-formed-bundled, announced-well-formed}
 use Rattle.protocol.proofs.Algorithm as values
 use Rattle.record.specs.Record.{encoding, decoded}
-use Rattle.record.proofs.Encoding.{decoded-encoding, encoding-length}
+use Rattle.record.proofs.Encoding.{decoded-encoding, decoded-well-formed, encoding-length}
 use Rattle.config.specs.declared.Slot.{Slot}
 use Rattle.calls.specs.Records.{recordAt, stored, ownSlot}
 use Rattle.calls.specs.Open.{openRecords}
@@ -70,13 +70,21 @@ unsigned-follows config bundle records out σ e =
     (unsigned-says config bundle e) in
     (receive-unread config bundle records out 8 e, state, effects)
 
+-- a well-formed record that is held has the node's own signature
+has-own : (config : Config) (sender : ℕ) (r : Record) → WellFormed (config .n) sender (quorum config) (config .own) r → algorithm.HasOwn (config .own) r
+has-own config sender Empty fine = tt
+has-own config sender (Held signers payload) fine = fine .1
+has-own config sender (Delivered signers payload) fine = tt
+
 pub receive-follows : ReceiveFollows
 receive-follows config bundle records out h e o l formed =
     let ok = read-says config bundle h e in
     let taken = receive-updated config bundle records out h e o l formed in (
       subst (algorithm.Follows (config .own) (quorum config) (h .sender) (h .signers) (payloadPart config bundle) (recordOf config (slotOf h) records)) (sym taken)
           (values.update-follows (config .own) (quorum config) (h .sender) (h .signers) (payloadPart config bundle) (recordOf config (slotOf h) records)
-          (ok .bundled .authentic)),
+          (ok .bundled .authentic)
+          (has-own config (h .sender) (recordOf config (slotOf h) records)
+          (decoded-well-formed config (h .sender) (recordAt config (slotOf h) records) (recordAt-length config (ok .configured) records l (slotOf h) (ok .range)) formed))),
       λ result f. (
         ap (recordOf config (slotOf h)) (left result f (ok .slot-named))
             ∙ record-stored config records (slotOf h) (result .newRecord) (ok .configured) l (ok .range)

@@ -1,4 +1,5 @@
--- What the search for a free record finds, and what a broadcast that is done has passed.
+-- The search for a free number as the code does it, over a part of the buffer, is the search over the buffer; which records it depends on; and what a
+-- broadcast that is done has passed.
 -- Assumes nothing.
 use mathlib.Core.Path.{_≡_, refl, sym, ap, _∙_, subst}
 use mathlib.Core.Bool.{Bool, true, false, cond, true≢false}
@@ -23,6 +24,7 @@ use Rattle.calls.specs.Locality.{ends}
 use Rattle.calls.specs.Inner.{scanned, foundOf}
 use Rattle.calls.proofs.RecordBounds.{own-room, own-range, own-place, record-at}
 use Rattle.calls.proofs.Records.{place-fits}
+use Rattle.calls.proofs.FreeNumber.{announced-is-lowest-free}
 
 -- one look of the search over the rest: no record is left, the first is blank, it is malformed, or what comes after it decides
 module _ (config : Config) (rest : List ℕ) where
@@ -105,22 +107,6 @@ scanned-own config records g l start e =
     let long = length-part records (place config (ownSlot config 0)) (recordSize * slots) (own-room config records g l) in
     rw (ours, long) (scanned-search config records g l 0 slots refl (place config (ownSlot config 0)) (omega arith))
 
--- the number that is found lies among those searched, and its record is blank
-search-found : (config : Config) (records : List ℕ) (seq left k : ℕ) → search config records seq left ≡ done k
-    → (k < seq + left) × (blank (recordAt config (ownSlot config k) records) ≡ true)
-unfolding search
-search-found config records seq zero k e = absurd (refused-not-done 25 k e)
-search-found config records seq (suc left) k e =
-    go (search-found config records (suc seq) left k) (blank (recordAt config (ownSlot config seq) records)) refl (wellFormed config (config .own) (recordAt config (ownSlot config seq) records)) e
-  where
-    go : (search config records (suc seq) left ≡ done k → (k < suc seq + left) × (blank (recordAt config (ownSlot config k) records) ≡ true))
-        → (b : Bool) → blank (recordAt config (ownSlot config seq) records) ≡ b
-        → (c : Bool) → cond b (done seq) (cond c (search config records (suc seq) left) (refused 21)) ≡ done k
-        → (k < seq + suc left) × (blank (recordAt config (ownSlot config k) records) ≡ true)
-    go below true h c same = let found : seq ≡ k = cc in (omega arith, rw (← found) h)
-    go below false h true rest = let r = below rest in (omega (arith, r .0), r .1)
-    go below false h false wrong = absurd (refused-not-done 21 k wrong)
-
 -- the search depends on our records up to one at which it ends,
 pub search-agrees : (config : Config) (records others : List ℕ) (seq left last : ℕ) → seq ≤ last → last < seq + left
     → ends config (recordAt config (ownSlot config last) records) ≡ true
@@ -181,5 +167,5 @@ broadcast-done config payload records out k e = go (checked (broadcastReasons co
     go (refused number) h f = absurd (refused-not-done number k f)
     go (done first) h f =
         let c = broadcast-clear config payload records out (told first h) in
-        let found = search-found config records 0 slots k f in
-        record { configured = c .0; whole = c .1; sized = c .2; below = found .0; range = own-range config k (c .0) (found .0); free = found .1 }
+        let found = announced-is-lowest-free config payload records out k e in
+        record { configured = c .0; whole = c .1; sized = c .2; below = found .ours; range = own-range config k (c .0) (found .ours); free = found .free }

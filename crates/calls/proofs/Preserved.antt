@@ -26,7 +26,7 @@ use Rattle.calls.specs.Open.{openRecords}
 use Rattle.calls.specs.Broadcast.{broadcast, broadcastRecords}
 use Rattle.calls.specs.Receive.{receive, receiveRecords}
 use Rattle.calls.specs.Showing.{delivered, deliveredPart}
-use Rattle.calls.specs.Preserved.{AllWellFormed, SameShown, CallsKeepWellFormed, DeliveredIsShown, ShownStays}
+use Rattle.calls.specs.Preserved.{StaysWellFormed, SameShown, CallsKeepWellFormed, DeliveredIsShown, ShownStays}
 use Rattle.calls.proofs.Records.{stored-length, stored-there, stored-elsewhere, zeros-at, same-place}
 use Rattle.calls.proofs.Refusals.{opened-done, broadcast-effect, broadcast-no-effect, receive-left, receive-no-effect, receive-unread, receive-updated, delivered-done, delivered-says, delivered-record}
 use Rattle.calls.proofs.LowestFree.{broadcast-done}
@@ -54,9 +54,9 @@ module _ (config : Config) (records : List ℕ) where
       ap length e ∙ stored-length config g records l slot range (encoding r) (well-formed-length config (slot .sender) r fine)
 
   -- the record of a slot is the one stored, or is as before
-  left-well-formed : (after : List ℕ) → Left config records after → AllWellFormed config records → AllWellFormed config after
-  left-well-formed after (same-left e) all other within = subst (λ (xs : List ℕ). wellFormed config (other .sender) (recordAt config other xs) ≡ true) e (all other within)
-  left-well-formed after (one-left slot r g l range fine fresh e) all other within = go (eqb (other .sender) (slot .sender)) refl (eqb (other .seq) (slot .seq)) refl
+  left-well-formed : (after : List ℕ) → Left config records after → StaysWellFormed config records after
+  left-well-formed after (same-left e) other within was = subst (λ (xs : List ℕ). wellFormed config (other .sender) (recordAt config other xs) ≡ true) e was
+  left-well-formed after (one-left slot r g l range fine fresh e) other within was = go (eqb (other .sender) (slot .sender)) refl (eqb (other .seq) (slot .seq)) refl
     where
       long : length (encoding r) ≡ recordSize
       long = well-formed-length config (slot .sender) r fine
@@ -65,7 +65,7 @@ module _ (config : Config) (records : List ℕ) where
       elsewhere apart =
           ap (λ (xs : List ℕ). wellFormed config (other .sender) (recordAt config other xs)) e
           ∙ ap (wellFormed config (other .sender)) (stored-elsewhere config g records l slot range (encoding r) long other within apart)
-          ∙ all other within
+          ∙ was
 
       there : other .sender ≡ slot .sender → other .seq ≡ slot .seq → wellFormed config (other .sender) (recordAt config other after) ≡ true
       there p q =
@@ -164,8 +164,8 @@ calls-keep-well-formed config records g l = (
         (ap (wellFormed config (slot .sender)) (zeros-at config slot g range ∙ empty-encoding) ∙ encoding-well-formed config (slot .sender) (good-says config g .most) Empty tt),
     rw (opened-done config records g l) (length-replicate {A = ℕ} (length records) 0),
   ),
-  λ payload out all. (left-well-formed config records _ (broadcast-left config payload records out) all, broadcast-length config payload records out),
-  λ bundle out all. (left-well-formed config records _ (receive-left-one config bundle records out) all, receive-length config bundle records out),
+  λ payload out. (left-well-formed config records _ (broadcast-left config payload records out), broadcast-length config payload records out),
+  λ bundle out. (left-well-formed config records _ (receive-left-one config bundle records out), receive-length config bundle records out),
 )
 
 pub shown-stays : ShownStays

@@ -1,22 +1,24 @@
--- Receiving a bundle is the step of the slot's record, wherever that record is well-formed: what is read, checked and taken.
+-- Receiving a bundle is the update of the slot's record, wherever that record is well-formed: what is read, checked and taken.
 -- Assumes nothing.
 use mathlib.Core.Path.{_≡_, refl, sym, ap, _∙_, subst}
-use mathlib.Core.Bool.{true}
-use mathlib.Core.List.{List}
+use mathlib.Core.Logic.{_⊎_, inl, inr}
+use mathlib.Core.Bool.{true, false, not, _&&_, true≢false, or-false, and-eq-true-iff}
+use mathlib.Core.List.{List, [], _∷_}
 use Prim.Native.Nat.{ℕ, _<_}
 use native.Mathlib.Omega.{arith}
+use lib.Dec.{ltb}
 use lib.ListN.{length}
-use borrow.Author.Tests.{eqb-true, not-false, ltb-true}
+use borrow.Author.Tests.{eqb-true, not-true, not-false, ltb-true}
 use Rattle.octets.proofs.Numbers.{length-part}
 use Rattle.signers.specs.Signers.{member, within, size}
-use Rattle.refusal.specs.Outcome.{Outcome, refused, done, checked, _and-then_}
-use Rattle.refusal.proofs.Reasons.{Clear, refused-not-done, done-clear}
+use Rattle.refusal.specs.Outcome.{Outcome, refused, done, _if_, checked, _and-then_}
+use Rattle.refusal.proofs.Reasons.{Clear, refused-not-done, done-clear, asked, refused-asked, refused-clear}
 use Rattle.config.specs.declared.Config.{Config}
 use Rattle.config.specs.Config.{good, quorum, slots, recordsSize, inRange}
 use Rattle.bundle.specs.declared.Header.{Header}
-use Rattle.bundle.specs.Bundle.{payloadIn, payloadStart, headerIn, headerReasons, read, bundleSize, payloadPart, slotIn, slotOf}
+use Rattle.bundle.specs.Bundle.{payloadIn, payloadStart, headerIn, headerReasons, readReasons, read, bundleSize, payloadPart, slotIn, slotOf}
 use Rattle.bundle.proofs.Accepted.{accepted-readable, accepted-payload}
-use Rattle.protocol.specs.Update.{Record, Update, update}
+use Rattle.protocol.specs.Update.{Record, isDelivered, holds, holdsOther, Update, updateReasons, updateResult, update}
 use Rattle.protocol.proofs.WellFormed.{Bundled}
 use Rattle.record.specs.Record.{encoding, decoded, wellFormed}
 use Rattle.payload.specs.Payload.{payloadSize}
@@ -73,7 +75,7 @@ receive-clear config bundle records out h c = (eqb-true _ _ (not-false _ (c .0))
 
 module _ (config : Config) (bundle records out : List ℕ) where
   module _ (h : Header) (e : read config bundle ≡ done h) where
-    -- a well-formed record is taken as the step says
+    -- a well-formed record is updated
     pub receive-updates : (r : Record) → length out ≡ bundleSize → length records ≡ recordsSize config → recordAt config (slotOf h) records ≡ encoding r
         → wellFormed config (h .sender) (encoding r) ≡ true → decoded (encoding r) ≡ r
         → receive config bundle records out ≡ update (config .own) (quorum config) (h .signers) (payloadPart config bundle) r
@@ -81,7 +83,7 @@ module _ (config : Config) (bundle records out : List ℕ) where
         receive-updated config bundle records out h e room size (ap (wellFormed config (h .sender)) held ∙ formed)
         ∙ ap (update (config .own) (quorum config) (h .signers) (payloadPart config bundle)) (ap decoded held ∙ back)
 
-    -- a bundle that is taken found 32 outgoing bytes, a buffer of the right size, and a record that the step goes on from, and that is well-formed
+    -- a bundle that is taken found 32 outgoing bytes, a buffer of the right size, and a record that the update goes on from, and that is well-formed
     pub receive-done : (result : Update) → receive config bundle records out ≡ done result
         → (length out ≡ bundleSize) × (length records ≡ recordsSize config)
         × (update (config .own) (quorum config) (h .signers) (payloadPart config bundle) (decoded (recordAt config (slotOf h) records)) ≡ done result)
@@ -97,3 +99,86 @@ module _ (config : Config) (bundle records out : List ℕ) where
         go (refused number) c t = absurd (refused-not-done number result t)
         go (done first) c t =
             let k = receive-clear config bundle records out h (done-clear (receiveReasons config bundle records out h) tt first c .0) in (k .0, k .1, t, k .2)
+
+-- a receive that is refused by a number that is not one of reading's read its bundle, and refuses after that, or its update does
+receive-refused-late : (config : Config) (bundle records out : List ℕ) (number : ℕ) → receive config bundle records out ≡ refused number
+    → asked number (readReasons config bundle) ≡ false
+    → (h : Header)
+    × (read config bundle ≡ done h)
+    × ((checked (receiveReasons config bundle records out h) ≡ refused number)
+    ⊎ (update (config .own) (quorum config) (h .signers) (payloadPart config bundle) (decoded (recordAt config (slotOf h) records)) ≡ refused number))
+unfolding receive read
+receive-refused-late config bundle records out number e other = go (read config bundle) refl e
+  where
+    Late : Type 0
+    Late =
+        (h : Header)
+        × (read config bundle ≡ done h)
+        × ((checked (receiveReasons config bundle records out h) ≡ refused number)
+        ⊎ (update (config .own) (quorum config) (h .signers) (payloadPart config bundle) (decoded (recordAt config (slotOf h) records)) ≡ refused number))
+
+    after-read : (h : Header) → read config bundle ≡ done h → (o : Outcome Unit) → checked (receiveReasons config bundle records out h) ≡ o
+        → (o and-then λ _. update (config .own) (quorum config) (h .signers) (payloadPart config bundle) (decoded (recordAt config (slotOf h) records))) ≡ refused number → Late
+    after-read h r (refused found) c f = let same : found ≡ number = cc in (h, r, inl (c ∙ ap refused same))
+    after-read h r (done first) c f = (h, r, inr f)
+
+    go : (b : Outcome Header) → read config bundle ≡ b
+        → (b and-then λ h. checked (receiveReasons config bundle records out h) and-then λ _.
+        update (config .own) (quorum config) (h .signers) (payloadPart config bundle) (decoded (recordAt config (slotOf h) records))) ≡ refused number → Late
+    go (refused found) r f =
+        let same : found ≡ number = cc in
+        absurd (true≢false (sym (refused-asked (readReasons config bundle) (headerIn bundle) number (r ∙ ap refused same)) ∙ other))
+    go (done h) r f = after-read h r (checked (receiveReasons config bundle records out h)) refl f
+
+-- 21: there is a malformed record in the slot
+pub receive-malformed-says : (config : Config) (bundle records out : List ℕ) → receive config bundle records out ≡ refused 21
+    → (h : Header) × (read config bundle ≡ done h) × (wellFormed config (h .sender) (recordAt config (slotOf h) records) ≡ false)
+unfolding receiveReasons readReasons headerReasons update updateReasons
+receive-malformed-says config bundle records out e =
+    let (h, r, late) = receive-refused-late config bundle records out 21 e refl in
+    (h, r, malformed h late)
+  where
+    not-by-update : (own q signers : ℕ) (payload : List ℕ) (r : Record) → update own q signers payload r ≡ refused 21 → ⊥
+    not-by-update own q signers payload r f =
+        true≢false (sym (refused-asked (updateReasons own q signers payload r) (updateResult own q signers payload r) 21 f))
+
+    malformed : (h : Header)
+        → (checked (receiveReasons config bundle records out h) ≡ refused 21)
+        ⊎ (update (config .own) (quorum config) (h .signers) (payloadPart config bundle) (decoded (recordAt config (slotOf h) records)) ≡ refused 21)
+        → wellFormed config (h .sender) (recordAt config (slotOf h) records) ≡ false
+    malformed h (inl c) = not-true _ (sym (or-false _) ∙ refused-asked (receiveReasons config bundle records out h) tt 21 c)
+    malformed h (inr f) =
+        absurd (not-by-update (config .own) (quorum config) (h .signers) (payloadPart config bundle) (decoded (recordAt config (slotOf h) records)) f)
+
+-- 23: the record has delivered nothing and does not hold the bundle's payload, and the bundle has our bit
+pub receive-unknown-says : (config : Config) (bundle records out : List ℕ) → receive config bundle records out ≡ refused 23
+    → (h : Header)
+    × (read config bundle ≡ done h)
+    × (isDelivered (decoded (recordAt config (slotOf h) records)) ≡ false)
+    × (member (h .signers) (config .own) ≡ true)
+    × (holds (decoded (recordAt config (slotOf h) records)) (payloadPart config bundle) ≡ false)
+unfolding receiveReasons readReasons headerReasons update updateReasons
+receive-unknown-says config bundle records out e =
+    let (h, r, late) = receive-refused-late config bundle records out 23 e refl in
+    let (waits, ours, apart) = unknown h late in
+    (h, r, waits, ours, apart)
+  where
+    by-update : (own q signers : ℕ) (payload : List ℕ) (r : Record) → update own q signers payload r ≡ refused 23
+        → (isDelivered r ≡ false) × (member signers own ≡ true) × (holds r payload ≡ false)
+    by-update own q signers payload r f =
+        let (ours, apart) = and-eq-true-iff (member signers own) (not (holds r payload)) .0
+        (sym (or-false _) ∙ refused-asked (updateReasons own q signers payload r) (updateResult own q signers payload r) 23 f) in
+        let (waits, rest) =
+        refused-clear 23 ((22 if isDelivered r) ∷ [])
+        ((23 if member signers own && not (holds r payload)) ∷ (24 if holdsOther r payload && ltb (size signers) q) ∷ []) (updateResult own q signers payload r) refl f in
+        (waits, ours, not-true _ apart)
+
+    unknown : (h : Header)
+        → (checked (receiveReasons config bundle records out h) ≡ refused 23)
+        ⊎ (update (config .own) (quorum config) (h .signers) (payloadPart config bundle) (decoded (recordAt config (slotOf h) records)) ≡ refused 23)
+        → (isDelivered (decoded (recordAt config (slotOf h) records)) ≡ false)
+        × (member (h .signers) (config .own) ≡ true)
+        × (holds (decoded (recordAt config (slotOf h) records)) (payloadPart config bundle) ≡ false)
+    unknown h (inl c) = absurd (true≢false (sym (refused-asked (receiveReasons config bundle records out h) tt 23 c)))
+    unknown h (inr f) =
+        by-update (config .own) (quorum config) (h .signers) (payloadPart config bundle) (decoded (recordAt config (slotOf h) records)) f

@@ -1,13 +1,14 @@
 -- Why each call refuses, in the order of its checks, and what it does where no reason applies.
 -- Assumes nothing.
 use mathlib.Core.Path.{_≡_, refl, sym, ap, _∙_}
-use mathlib.Core.Bool.{Bool, true, false, cond}
-use mathlib.Core.List.{List}
+use mathlib.Core.Bool.{Bool, true, false, cond, not, or-false}
+use mathlib.Core.List.{List, [], _∷_}
 use Prim.Native.Nat.{ℕ, _+_, _<_, _≤_}
+use lib.Dec.{ltb}
 use lib.ListN.{length, replicate}
-use borrow.Author.Tests.{ltb-true, lt-ltb, le-ltb, eqb-true, eq-eqb, ne-eqb, not-false}
-use Rattle.refusal.specs.Outcome.{Outcome, refused, done, checked, _and-then_}
-use Rattle.refusal.proofs.Reasons.{passed, failed, pass, stop, done-clear, clear-done}
+use borrow.Author.Tests.{ltb-true, lt-ltb, le-ltb, eqb-true, eq-eqb, ne-eqb, not-true, not-false}
+use Rattle.refusal.specs.Outcome.{Outcome, refused, done, _if_, checked, _and-then_}
+use Rattle.refusal.proofs.Reasons.{passed, failed, pass, stop, done-clear, clear-done, refused-asked, refused-clear}
 use Rattle.config.specs.declared.Config.{Config}
 use Rattle.config.specs.Config.{good, slots, inRange, place, recordsSize, quorum}
 use Rattle.bundle.specs.declared.Header.{Header}
@@ -18,7 +19,7 @@ use Rattle.record.proofs.UpdateCases.{received-malformed, received-well-formed}
 use Rattle.payload.specs.Payload.{payloadSize}
 use Rattle.config.proofs.Laws.{in-range}
 use Rattle.config.specs.declared.Slot.{Slot}
-use Rattle.calls.specs.Records.{recordAt, stored, ownSlot}
+use Rattle.calls.specs.Records.{recordAt, stored, ownSlot, wrongSize}
 use Rattle.calls.specs.Open.{openReasons, opened}
 use Rattle.calls.specs.Broadcast.{search, announcedHeader, broadcastReasons, broadcast, broadcastRecords, broadcastOut}
 use Rattle.calls.specs.Receive.{recordBundle, receiveReasons, receive, receiveRecords, receiveOut, reported}
@@ -133,7 +134,7 @@ module _ (config : Config) (bundle records out : List ℕ) where
         receive-malformed f =
             rest ∙ ap taking (pass 10 _ _ (passed (eq-eqb _ _ o)) ∙ pass 20 _ _ (passed (eq-eqb _ _ r)) ∙ stop 21 _ _ (failed f))
 
-        -- the step decides
+        -- the update decides
         pub receive-updated : wellFormed config (h .sender) (recordAt config (slotOf h) records) ≡ true
             → receive config bundle records out
             ≡ update (config .own) (quorum config) (h .signers) (payloadPart config bundle) (decoded (recordAt config (slotOf h) records))
@@ -219,3 +220,20 @@ module _ (config : Config) (slot : Slot) (records : List ℕ) where
   unfolding delivered deliveredReasons
   delivered-record start e =
       not-false _ (done-clear (deliveredReasons config slot records) (place config slot + payloadAt) start e .0 .1 .1 .1 .1 .1 .0)
+
+  -- a slot that is refused by 21 is in range, and its record is malformed
+  pub delivered-malformed-says : delivered config slot records ≡ refused 21
+      → (inRange config slot ≡ true) × (wellFormed config (slot .sender) (recordAt config slot records) ≡ false)
+  unfolding delivered deliveredReasons
+  delivered-malformed-says e =
+      let clear =
+      refused-clear 21
+      ((1 if not (good config)) ∷ (5 if not (ltb (slot .sender) (config .n))) ∷ (6 if not (ltb (slot .seq) slots)) ∷ [])
+      ((20 if wrongSize config records)
+      ∷ (21 if not (wellFormed config (slot .sender) (recordAt config slot records)))
+      ∷ (26 if not (isDelivered (decoded (recordAt config slot records))))
+      ∷ [])
+      (place config slot + payloadAt) refl e in (
+        in-range config slot (ltb-true _ _ (not-false _ (clear .1 .0))) (ltb-true _ _ (not-false _ (clear .1 .1 .0))),
+        not-true _ (sym (or-false _) ∙ refused-asked (deliveredReasons config slot records) (place config slot + payloadAt) 21 e),
+      )

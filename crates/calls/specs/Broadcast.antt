@@ -24,7 +24,7 @@ use Rattle.calls.specs.declared.Announcement.{Announcement}
 use Rattle.calls.specs.declared.Announcement.the-variants.{Announced, Refused}
 
 -- "The search looks at one record and hands the rest of the sixteen to itself.": from number `seq` on, `left` records are left. An empty record
--- is all zero; 21 is for a malformed one before the first that is, and 25 for none.
+-- is all zero; 21 is for a malformed one that no empty one comes before, and 25 where all are well-formed and none is empty.
 unfoldable pub search : Config → (records : List ℕ) (seq left : ℕ) → Outcome ℕ
 search config records seq zero = refused 25
 search config records seq (suc left) =
@@ -36,7 +36,7 @@ abbrev pub announcedHeader : Config → (seq : ℕ) → Header
 announcedHeader config seq = headerOfDay config (config .own) seq (insert 0 (config .own))
 
 module _ (config : Config) (payload records out : List ℕ) where
-  -- "announcing 1, 9, 10, 20, 21, 25"
+  -- "announcing 1, 9, 10, 20, 21, 25": 21 and 25 are those of the search
   unfoldable pub broadcastReasons : List Reason
   broadcastReasons =
       (1 if not (good config))

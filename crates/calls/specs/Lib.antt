@@ -2,9 +2,12 @@
 pub mod Records
 pub mod Open
 pub mod Broadcast
+pub mod FreeNumber
 pub mod Receive
 pub mod Showing
+pub mod Refusals
 pub mod Inner
 pub mod Locality
 pub mod Algorithm
+pub mod Differences
 pub mod Preserved

@@ -71,7 +71,7 @@ BroadcastDepends =
     → (broadcast config payload records out ≡ broadcast config payload others other)
     × ((seq : ℕ) → broadcast config payload records out ≡ done seq → broadcastOut config payload records out ≡ broadcastOut config payload others other)
 
--- and where it ends at none, our sixteen records and no others
+-- and wherever it ends, also where it ends at none, our sixteen records and no others
 abbrev pub BroadcastOwn : Type 0
 BroadcastOwn =
     (config : Config) (payload records others out other : List ℕ)

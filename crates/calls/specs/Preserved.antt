@@ -3,7 +3,7 @@
 use mathlib.Core.Path.{_≡_}
 use mathlib.Core.Bool.{true}
 use mathlib.Core.List.{List}
-use Prim.Native.Nat.{ℕ, _+_, _<_}
+use Prim.Native.Nat.{ℕ, _+_}
 use lib.ListN.{length}
 use Rattle.refusal.specs.Outcome.{done}
 use Rattle.config.specs.declared.Config.{Config}
@@ -23,21 +23,27 @@ use Rattle.calls.specs.Showing.{delivered, deliveredPart}
 abbrev pub AllWellFormed : Config → (records : List ℕ) → Type 0
 AllWellFormed config records = (slot : Slot) → inRange config slot ≡ true → wellFormed config (slot .sender) (recordAt config slot records) ≡ true
 
+-- each record that is well-formed in one buffer is so in another
+abbrev pub StaysWellFormed : Config → (before after : List ℕ) → Type 0
+StaysWellFormed config before after =
+    (slot : Slot) → inRange config slot ≡ true → wellFormed config (slot .sender) (recordAt config slot before) ≡ true
+    → wellFormed config (slot .sender) (recordAt config slot after) ≡ true
+
 -- two buffers in which a slot is shown alike
 abbrev pub SameShown : Config → Slot → (first second : List ℕ) → Type 0
 SameShown config slot first second =
     (delivered config slot first ≡ delivered config slot second) × (deliveredPart config slot first ≡ deliveredPart config slot second)
 
--- Opening makes every record well-formed, which document 01 calls sound, and broadcasting and receiving leave every record well-formed that was, in a
--- buffer of its length: at a node that opened its day 21 has no cause.
+-- Opening makes every record well-formed, which document 01 calls sound. Broadcasting and receiving leave each record so that was so, whatever the others
+-- are, and all three leave the buffer its length. That no call is then refused by 21 is `NeverMalformed` of system's specs/Order.antt.
 abbrev pub CallsKeepWellFormed : Type 0
 CallsKeepWellFormed =
     (config : Config) (records : List ℕ) → good config ≡ true → length records ≡ recordsSize config
     → (AllWellFormed config (openRecords config records) × (length (openRecords config records) ≡ length records))
-    × ((payload out : List ℕ) → AllWellFormed config records
-    → AllWellFormed config (broadcastRecords config payload records out) × (length (broadcastRecords config payload records out) ≡ length records))
-    × ((bundle out : List ℕ) → AllWellFormed config records
-    → AllWellFormed config (receiveRecords config bundle records out) × (length (receiveRecords config bundle records out) ≡ length records))
+    × ((payload out : List ℕ)
+    → StaysWellFormed config records (broadcastRecords config payload records out) × (length (broadcastRecords config payload records out) ≡ length records))
+    × ((bundle out : List ℕ)
+    → StaysWellFormed config records (receiveRecords config bundle records out) × (length (receiveRecords config bundle records out) ≡ length records))
 
 -- "Showing gives the delivered body": after a receive that is answered delivered, showing its slot gives the payload of the bundle given.
 abbrev pub DeliveredIsShown : Type 0

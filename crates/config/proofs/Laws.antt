@@ -1,6 +1,6 @@
 -- What `good` says, and what of the quorum the protocol's argument rests on. Callers go by these laws and not by the formulas.
--- The protocol's argument rests on `quorum-intersects` and `quorum-reachable` alone, which another quorum within the same bounds would meet;
--- `quorum-strict` is about the source's own quorum.
+-- The argument on values rests on `quorum-intersects` and `quorum-reachable`, and demand 3 on `quorum-shared` besides: another quorum within the same
+-- bounds, and the same at all nodes, would meet them. `quorum-strict` is about the source's own quorum.
 -- Assumes nothing.
 use mathlib.Core.Path.{_≡_, refl, ap, ap₂, _∙_}
 use mathlib.Core.Bool.{Bool, true, false, and-eq-true-iff}

@@ -1,11 +1,13 @@
--- Laws of the codes: the count has no part in the code of an answer, and each call gives codes of its list and no others.
+-- Laws of the codes: the count has no part in the code of an answer, each call gives codes of its list and no others, and a
+-- refusal's code means that nothing changed.
 -- Assumes nothing.
-use mathlib.Core.Path.{_≡_, refl}
-use mathlib.Core.Bool.{Bool, true, false, cond, _&&_, and-eq-true-iff}
+use mathlib.Core.Path.{_≡_, refl, sym, ap, _∙_}
+use mathlib.Core.Bool.{Bool, true, false, cond, _&&_, and-eq-true-iff, true≢false}
 use mathlib.Core.List.{List}
 use Prim.Native.Nat.{ℕ, zero, suc, _+_, _≤_, _<_}
 use native.Mathlib.Omega.{arith}
-use lib.Dec.{leb}
+use lib.Dec.{leb, ltb}
+use borrow.Author.Tests.{ltb-true}
 use Rattle.octets.specs.Octets.{blank}
 use Rattle.signers.specs.Signers.{size}
 use Rattle.refusal.specs.Outcome.{Outcome, refused, done, checked, _and-then_}
@@ -13,20 +15,21 @@ use Rattle.refusal.proofs.Reasons.{Comes, unless-comes, then-comes}
 use Rattle.config.specs.declared.Config.{Config}
 use Rattle.config.specs.Config.{quorum, slots}
 use Rattle.bundle.specs.Bundle.{headerIn, headerReasons, readReasons, read, payloadPart, slotOf}
-use Rattle.protocol.specs.Update.{Record, Held, Delivered, isEmpty, kept, signed, delivered, Update, updateReasons, joinedSigners, updateResult, update}
+use Rattle.protocol.specs.Update.{Record, Held, Delivered, isEmpty, Answer, announced, kept, signed, delivered, Update, updateReasons, joinedSigners, updateResult, update}
 use Rattle.record.specs.Record.{decoded, wellFormed}
 use Rattle.calls.specs.Records.{recordAt, ownSlot}
-use Rattle.calls.specs.Broadcast.{search, broadcastReasons, broadcast}
-use Rattle.calls.specs.Receive.{receiveReasons, receive, reported}
-use Rattle.host.specs.Code.{announcedCode, answerCode, receivedCode, reportedCode, broadcastCodes, receiveCodes, listed, BroadcastListed, ReceiveListed}
+use Rattle.calls.specs.Broadcast.{search, broadcastReasons, broadcast, broadcastRecords, broadcastOut}
+use Rattle.calls.specs.Receive.{receiveReasons, receive, receiveRecords, receiveOut, reported}
+use Rattle.calls.proofs.NoEffect.{refused-broadcast-changes-nothing, refused-receive-changes-nothing}
+use Rattle.host.specs.Code.{announcedCode, answerCode, receivedCode, reportedCode, broadcastCodes, receiveCodes, listed, BroadcastListed, ReceiveListed, RefusalsBelow100, RefusalCodeChangesNothing}
 
 without-count : (outcome : Outcome Update) → reportedCode (outcome and-then λ result. done (reported result)) ≡ receivedCode outcome
 unfolding reported
 without-count (refused number) = refl
 without-count (done result) = refl
 
-pub reported-received : (w : Config) (bundle records out : List ℕ) → reportedCode (receive w bundle records out and-then λ result. done (reported result)) ≡ receivedCode (receive w bundle records out)
-reported-received w bundle records out = without-count (receive w bundle records out)
+pub reported-received : (config : Config) (bundle records out : List ℕ) → reportedCode (receive config bundle records out and-then λ result. done (reported result)) ≡ receivedCode (receive config bundle records out)
+reported-received config bundle records out = without-count (receive config bundle records out)
 
 -- ---- announcing
 
@@ -50,14 +53,14 @@ unfolding listed broadcastCodes
 number-listed = first-says slots (λ k. listed broadcastCodes (200 + k)) refl
 
 -- the search refuses by 25 or 21, or gives one of the sixteen numbers
-search-listed : (w : Config) (records : List ℕ) (seq left : ℕ) → seq + left ≤ slots → Comes (listed broadcastCodes) Announces (search w records seq left)
+search-listed : (config : Config) (records : List ℕ) (seq left : ℕ) → seq + left ≤ slots → Comes (listed broadcastCodes) Announces (search config records seq left)
 unfolding search listed broadcastCodes
-search-listed w records seq zero h = refl
-search-listed w records seq (suc left) h =
-    go (blank (recordAt w (ownSlot w seq) records)) (wellFormed w (w .own) (recordAt w (ownSlot w seq) records)) (search-listed w records (suc seq) left (omega arith))
+search-listed config records seq zero h = refl
+search-listed config records seq (suc left) h =
+    go (blank (recordAt config (ownSlot config seq) records)) (wellFormed config (config .own) (recordAt config (ownSlot config seq) records)) (search-listed config records (suc seq) left (omega arith))
   where
-    go : (b f : Bool) → Comes (listed broadcastCodes) Announces (search w records (suc seq) left)
-        → Comes (listed broadcastCodes) Announces (cond b (done seq) (cond f (search w records (suc seq) left) (refused 21)))
+    go : (b f : Bool) → Comes (listed broadcastCodes) Announces (search config records (suc seq) left)
+        → Comes (listed broadcastCodes) Announces (cond b (done seq) (cond f (search config records (suc seq) left) (refused 21)))
     go true f below = number-listed seq (omega arith)
     go false true below = below
     go false false below = refl
@@ -68,11 +71,11 @@ announced-listed (done seq) h = h
 
 pub broadcast-listed : BroadcastListed
 unfolding broadcast broadcastReasons listed broadcastCodes
-broadcast-listed w payload records out =
-    announced-listed (broadcast w payload records out)
-    (then-comes (listed broadcastCodes) Announces (checked (broadcastReasons w payload records out)) (λ _. search w records 0 slots)
-    (unless-comes (listed broadcastCodes) (λ _. Unit) (broadcastReasons w payload records out) tt refl tt)
-    (λ _. search-listed w records 0 slots (omega arith)))
+broadcast-listed config payload records out =
+    announced-listed (broadcast config payload records out)
+    (then-comes (listed broadcastCodes) Announces (checked (broadcastReasons config payload records out)) (λ _. search config records 0 slots)
+    (unless-comes (listed broadcastCodes) (λ _. Unit) (broadcastReasons config payload records out) tt refl tt)
+    (λ _. search-listed config records 0 slots (omega arith)))
 
 -- ---- taking
 
@@ -103,15 +106,92 @@ received-listed : (outcome : Outcome Update) → Comes (listed receiveCodes) Ans
 received-listed (refused number) h = h
 received-listed (done result) h = h
 
-read-listed : (w : Config) (bundle : List ℕ) → Comes (listed receiveCodes) (λ _. Unit) (read w bundle)
+read-listed : (config : Config) (bundle : List ℕ) → Comes (listed receiveCodes) (λ _. Unit) (read config bundle)
 unfolding read readReasons headerReasons listed receiveCodes
-read-listed w bundle = unless-comes (listed receiveCodes) (λ _. Unit) (readReasons w bundle) (headerIn bundle) refl tt
+read-listed config bundle = unless-comes (listed receiveCodes) (λ _. Unit) (readReasons config bundle) (headerIn bundle) refl tt
 
 pub receive-listed : ReceiveListed
 unfolding receive receiveReasons listed receiveCodes
-receive-listed w bundle records out =
-    received-listed (receive w bundle records out)
-    (then-comes (listed receiveCodes) Answers (read w bundle) _ (read-listed w bundle)
-    (λ h. then-comes (listed receiveCodes) Answers (checked (receiveReasons w bundle records out h)) _
-    (unless-comes (listed receiveCodes) (λ _. Unit) (receiveReasons w bundle records out h) tt refl tt)
-    (λ _. update-listed (w .own) (quorum w) (h .signers) (payloadPart w bundle) (decoded (recordAt w (slotOf h) records)))))
+receive-listed config bundle records out =
+    received-listed (receive config bundle records out)
+    (then-comes (listed receiveCodes) Answers (read config bundle) _ (read-listed config bundle)
+    (λ h. then-comes (listed receiveCodes) Answers (checked (receiveReasons config bundle records out h)) _
+    (unless-comes (listed receiveCodes) (λ _. Unit) (receiveReasons config bundle records out h) tt refl tt)
+    (λ _. update-listed (config .own) (quorum config) (h .signers) (payloadPart config bundle) (decoded (recordAt config (slotOf h) records)))))
+
+-- ---- refusals
+
+-- a number that is tested
+refusal-says : {A : Type 0} (test : ℕ → Bool) (claim : A → Type 0) (outcome : Outcome A) (number : ℕ) → Comes test claim outcome → outcome ≡ refused number → test number ≡ true
+refusal-says test claim outcome number h e = rw e at h
+
+below-100 : ℕ → Bool
+below-100 k = ltb k 100
+
+search-below : (config : Config) (records : List ℕ) (seq left : ℕ) → Comes below-100 (λ _. Unit) (search config records seq left)
+unfolding search below-100
+search-below config records seq zero = refl
+search-below config records seq (suc left) =
+    go (blank (recordAt config (ownSlot config seq) records)) (wellFormed config (config .own) (recordAt config (ownSlot config seq) records)) (search-below config records (suc seq) left)
+  where
+    go : (b f : Bool) → Comes below-100 (λ _. Unit) (search config records (suc seq) left)
+        → Comes below-100 (λ _. Unit) (cond b (done seq) (cond f (search config records (suc seq) left) (refused 21)))
+    go true f below = tt
+    go false true below = below
+    go false false below = refl
+
+broadcast-below : (config : Config) (payload records out : List ℕ) → Comes below-100 (λ _. Unit) (broadcast config payload records out)
+unfolding broadcast broadcastReasons below-100
+broadcast-below config payload records out =
+    then-comes below-100 (λ _. Unit) (checked (broadcastReasons config payload records out)) (λ _. search config records 0 slots)
+    (unless-comes below-100 (λ _. Unit) (broadcastReasons config payload records out) tt refl tt)
+    (λ _. search-below config records 0 slots)
+
+receive-below : (config : Config) (bundle records out : List ℕ) → Comes below-100 (λ _. Unit) (receive config bundle records out)
+unfolding receive receiveReasons read readReasons headerReasons update updateReasons below-100
+receive-below config bundle records out =
+    then-comes below-100 (λ _. Unit) (read config bundle) _ (unless-comes below-100 (λ _. Unit) (readReasons config bundle) (headerIn bundle) refl tt)
+    (λ h. then-comes below-100 (λ _. Unit) (checked (receiveReasons config bundle records out h)) _
+    (unless-comes below-100 (λ _. Unit) (receiveReasons config bundle records out h) tt refl tt)
+    (λ _. unless-comes below-100 (λ _. Unit)
+    (updateReasons (config .own) (quorum config) (h .signers) (payloadPart config bundle) (decoded (recordAt config (slotOf h) records)))
+    (updateResult (config .own) (quorum config) (h .signers) (payloadPart config bundle) (decoded (recordAt config (slotOf h) records))) refl tt))
+
+pub refusals-below-100 : RefusalsBelow100
+unfolding below-100
+refusals-below-100 config records out = (
+  λ payload number e. ltb-true number 100 (refusal-says below-100 (λ _. Unit) (broadcast config payload records out) number (broadcast-below config payload records out) e),
+  λ bundle number e. ltb-true number 100 (refusal-says below-100 (λ _. Unit) (receive config bundle records out) number (receive-below config bundle records out) e),
+)
+
+pub refusal-code-changes-nothing : RefusalCodeChangesNothing
+unfolding listed receiveCodes
+refusal-code-changes-nothing config records out = (
+  λ payload few. after-broadcast payload (broadcast config payload records out) refl few,
+  λ bundle few. after-receive bundle (receive config bundle records out) refl (receive-listed config bundle records out) few,
+)
+  where
+    after-broadcast : (payload : List ℕ) (o : Outcome ℕ) → broadcast config payload records out ≡ o → announcedCode o < 100
+        → (broadcast config payload records out ≡ refused (announcedCode (broadcast config payload records out)))
+        × (broadcastRecords config payload records out ≡ records)
+        × (broadcastOut config payload records out ≡ out)
+    after-broadcast payload (refused number) e few =
+        let (left, same) = refused-broadcast-changes-nothing config payload records out number e in
+        (e ∙ ap (λ (x : Outcome ℕ). refused (announcedCode x)) (sym e), left, same)
+    after-broadcast payload (done seq) e few = absurd (omega arith)
+
+    answered : (answer : Answer) → listed receiveCodes (answerCode answer) ≡ true → answerCode answer < 100 → ⊥
+    answered announced fine few = true≢false (sym fine)
+    answered kept fine few = omega arith
+    answered signed fine few = omega arith
+    answered delivered fine few = omega arith
+
+    after-receive : (bundle : List ℕ) (o : Outcome Update) → receive config bundle records out ≡ o → listed receiveCodes (receivedCode (receive config bundle records out)) ≡ true
+        → receivedCode o < 100
+        → (receive config bundle records out ≡ refused (receivedCode (receive config bundle records out)))
+        × (receiveRecords config bundle records out ≡ records)
+        × (receiveOut config bundle records out ≡ out)
+    after-receive bundle (refused number) e fine few =
+        let (left, same) = refused-receive-changes-nothing config bundle records out number e in
+        (e ∙ ap (λ (x : Outcome Update). refused (receivedCode x)) (sym e), left, same)
+    after-receive bundle (done result) e fine few = absurd (answered (result .answer) (rw e at fine) few)

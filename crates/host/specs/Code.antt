@@ -4,13 +4,13 @@
 use mathlib.Core.Path.{_≡_}
 use mathlib.Core.Bool.{Bool, true, false, _||_}
 use mathlib.Core.List.{List, [], _∷_}
-use Prim.Native.Nat.{ℕ, _+_}
+use Prim.Native.Nat.{ℕ, _+_, _<_}
 use lib.Dec.{eqb}
 use Rattle.refusal.specs.Outcome.{Outcome, refused, done}
 use Rattle.config.specs.declared.Config.{Config}
 use Rattle.protocol.specs.Update.{Answer, announced, kept, signed, delivered, Update}
-use Rattle.calls.specs.Broadcast.{broadcast}
-use Rattle.calls.specs.Receive.{receive}
+use Rattle.calls.specs.Broadcast.{broadcast, broadcastRecords, broadcastOut}
+use Rattle.calls.specs.Receive.{receive, receiveRecords, receiveOut}
 
 -- the table, given as five numbers
 abbrev pub configOf : ℕ → ℕ → ℕ → ℕ → ℕ → Config
@@ -64,3 +64,23 @@ BroadcastListed = (config : Config) (payload records out : List ℕ) → listed 
 
 abbrev pub ReceiveListed : Type 0
 ReceiveListed = (config : Config) (bundle records out : List ℕ) → listed receiveCodes (receivedCode (receive config bundle records out)) ≡ true
+
+-- The codes below 100 are those of refusals: a refusal has such a code,
+abbrev pub RefusalsBelow100 : Type 0
+RefusalsBelow100 =
+    (config : Config) (records out : List ℕ)
+    → ((payload : List ℕ) (number : ℕ) → broadcast config payload records out ≡ refused number → number < 100)
+    × ((bundle : List ℕ) (number : ℕ) → receive config bundle records out ≡ refused number → number < 100)
+
+-- and after such a code the call was refused, and every byte of both buffers is as it was.
+abbrev pub RefusalCodeChangesNothing : Type 0
+RefusalCodeChangesNothing =
+    (config : Config) (records out : List ℕ)
+    → ((payload : List ℕ) → announcedCode (broadcast config payload records out) < 100
+    → (broadcast config payload records out ≡ refused (announcedCode (broadcast config payload records out)))
+    × (broadcastRecords config payload records out ≡ records)
+    × (broadcastOut config payload records out ≡ out))
+    × ((bundle : List ℕ) → receivedCode (receive config bundle records out) < 100
+    → (receive config bundle records out ≡ refused (receivedCode (receive config bundle records out)))
+    × (receiveRecords config bundle records out ≡ records)
+    × (receiveOut config bundle records out ≡ out))

@@ -1,2 +1,2 @@
--- What the contracts of the C interface cite.
+-- What the contracts of the C interface cite, and which codes a host sees.
 pub mod Code

@@ -1,11 +1,11 @@
--- An input byte by byte, as it comes in pieces: what is known after so much of it, and what is printed for each line as it ends.
+-- An input byte by byte, as it comes in pieces: what is known after so much of it, what is printed for each line as it ends, and what is kept of it.
 -- Assumes nothing.
 use mathlib.Core.Path.{_≡_}
 use mathlib.Core.Bool.{cond}
 use mathlib.Core.List.{List, [], _∷_, _++_}
-use Prim.Native.Nat.{ℕ, suc, min}
+use Prim.Native.Nat.{ℕ, suc, min, _-_, _≤_}
 use lib.Dec.{eqb}
-use lib.ListN.{length, take}
+use lib.ListN.{length, take, replicate}
 use Rattle.text.specs.Text.{before, lineFeed}
 use Rattle.step.specs.Step.{roomy}
 use Rattle.stages.specs.declared.State.{State}
@@ -17,7 +17,7 @@ use Rattle.lines.specs.declared.Run.{Run}
 pub record Progress : Type 0 where
   -- what the lines left that have ended
   pub state : State
-  -- what has come of the next one, up to one byte more than a line may have
+  -- what has come of the next one, up to one byte more than a row may have
   pub line : List ℕ
   pub records : List ℕ
 
@@ -66,10 +66,28 @@ heldBytes run = min (run .held) lineSpace
 unfoldable pub progress : (run : Run) (line records : List ℕ) → Progress
 progress run line records = record { state = run .state; line = take (heldBytes run) line; records = records }
 
+-- What is kept of it from one piece to the next: the line from the buffer's start on, with zeros behind it, and how many bytes it has.
+module _ (p : Progress) where
+  unfoldable pub keptRun : Run
+  keptRun = record { state = p .state; held = length (p .line) }
+
+  unfoldable pub keptLine : List ℕ
+  keptLine = p .line ++ replicate (lineSpace - length (p .line)) 0
+
+-- It stands for what is known, as long as the line has room in the buffer: whoever goes on from it has lost nothing.
+abbrev pub KeptStands : Type 0
+KeptStands = (p : Progress) → length (p .line) ≤ lineSpace → progress (keptRun p) (keptLine p) (p .records) ≡ p
+
+-- And no bytes make the line longer than that.
+abbrev pub LineHasRoom : Type 0
+LineHasRoom = (p : Progress) (bytes : List ℕ) → length (p .line) ≤ lineSpace → length (afterBytes p bytes .line) ≤ lineSpace
+
+-- ---- a line at a time
+
 -- the first line with its line feed, or all there is of it
 unfoldable pub through : (chunk : List ℕ) → ℕ
 through chunk = min (suc (before lineFeed chunk)) (length chunk)
 
--- so many bytes `next_line` uses: none where there is no room for any row
+-- so many bytes `next_line` uses: none where it finds fewer than `rowSpace` bytes to print to
 unfoldable pub usedBytes : (at : ℕ) (chunk out : List ℕ) → ℕ
 usedBytes at chunk out = cond (roomy at out) (through chunk) 0

@@ -39,7 +39,11 @@ pub fn held_bytes(run: Run) -> usize
 }
 
 // Plays the first line of the chunk with its line feed, or holds what there is of it, and prints what is
-// printed for it over `out` from index `at` on. If `out` has no room there for any row, nothing is done.
+// printed for it over `out` from index `at` on. If `out` has fewer than ROW_SPACE bytes there, nothing is
+// done.
+//
+// What stands in `line` behind the held bytes is scratch: the contract gives the run and the line by what is
+// known (`progress`), which does not look there, since to clear it for each line would cost time.
 pub fn next_line(
     run: Run,
     chunk: &[u8],
@@ -70,9 +74,9 @@ pub fn next_line(
     first_line(run, chunk, line, records, at, out)
 }
 
-// The same where there is room for any row. A row that is read has no line feed in it. So where a line feed
-// stands after a usual row, that row is the line: it is played where it stands, and its bytes are not looked
-// through for the end.
+// The same where `out` has ROW_SPACE bytes there. A row that is read has no line feed in it. So where a line
+// feed stands after a usual row, that row is the line: it is played where it stands, and its bytes are not
+// looked through for the end.
 fn first_line(
     run: Run,
     chunk: &[u8],

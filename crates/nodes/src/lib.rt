@@ -29,7 +29,7 @@ pub fn played(config: Config) -> u8
     config.n
 }
 
-// Opens the day at every node.
+// Opens the day at every node that is played.
 pub fn open(config: Config, records: &mut [u8; RECORDS_SPACE])
     ensures { λ _. ⌜ now (records .exit) ≡ openedRecords config (now (records .entry)) ⌝ }
 {
@@ -38,7 +38,7 @@ pub fn open(config: Config, records: &mut [u8; RECORDS_SPACE])
 
 // Plays a step row at its node and prints it over `out` from index `at` on. The answer is where the printed
 // row ends. A row that is not read does nothing, and the answer is `at`; for a row that is read it is `at`
-// only if `out` has no room there for any row.
+// only if `out` has fewer than `step::ROW_SPACE` bytes there.
 pub fn play_line(
     config: Config,
     ordinal: u64,

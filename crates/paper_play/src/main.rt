@@ -1,6 +1,6 @@
 // Plays the run of document 01 by a node's calls, and writes what the paper says that it prints: the file
-// `stdout` holds that. Then come the bundles that were sent, a delivered payload, and each reason for which
-// the calls refuse.
+// `stdout` holds that. Then come the bundles that were sent, a delivered payload, what one node would send on,
+// and each reason for which the calls refuse.
 //
 // It shows how the calls are used. A node has 512 bytes of records for each node of the system, opens the day
 // over them once, and from then on lends them, with 32 outgoing bytes, to each call. It sends the outgoing
@@ -26,7 +26,7 @@ const PAYLOAD: [u8; payload::SIZE] = [0, 1, 2, 3, 4, 5, 6, 7, 8, 9, 10, 11, 12, 
 // The records of a day at each of the four nodes.
 pub(crate) const RECORDS_SIZE: usize = config::RECORD_SIZE * (config::SLOTS as usize) * 4;
 
-// The seven steps; of each step that sends, the outgoing bytes are kept. What a node receives is what another
+// The seven steps; of each step that sends, the outgoing bytes are kept. What a node receives is what a node
 // sent, as the paper's rows have it, but for step 6.
 fn main() {
     let mut records0 = opened(0);

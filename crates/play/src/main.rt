@@ -31,6 +31,7 @@ fn main() {
             return;
         }
         let n = io::count(got, &chunk);
+        // All n bytes are used: the buffer has room for no more than CHUNK.
         let fed = run::feed(run, &chunk[..n], &mut line, &mut records, &mut out);
         run = fed.run;
         let len = fed.len;

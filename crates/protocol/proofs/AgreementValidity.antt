@@ -4,6 +4,7 @@ use mathlib.Core.Path.{_≡_}
 use mathlib.Core.Bool.{true}
 use mathlib.Core.List.{List}
 use Prim.Native.Nat.{ℕ, _≤_}
+use native.Mathlib.Omega.{arith}
 use Rattle.signers.specs.Sets.{NodeSet, count}
 use Rattle.signers.proofs.Members.{words-share-correct}
 use Rattle.protocol.specs.Update.{Delivered}
@@ -11,7 +12,8 @@ use Rattle.protocol.specs.Trace.{Trace}
 use Rattle.protocol.specs.OneSlot.{Act, currentRecord, correct, Quorum, Lawful, Agreement, Validity}
 use Rattle.protocol.proofs.CorrectNodes.{below-correct}
 use Rattle.protocol.proofs.SentSoFar.{delivered-record}
-use Rattle.protocol.proofs.GenuineSignatures.{DeliveredGenuine, record-genuine, signs-one-payload, signed-announced}
+use Rattle.protocol.proofs.GenuineSignatures.{DeliveredGenuine, record-genuine, signed-announced}
+use Rattle.protocol.proofs.SignedSoFar.{signs-one-payload}
 
 module _ (n t d q sender : ℕ) (faulty : NodeSet) (trace : Trace Act) (quorum : Quorum n t d q) (few : count faulty n ≤ t)
     (lawful : Lawful n q sender faulty trace) where
@@ -30,7 +32,7 @@ module _ (n t d q sender : ℕ) (faulty : NodeSet) (trace : Trace Act) (quorum :
       let (w, below, in-a, in-b, is-correct) =
       words-share-correct a b n t q faulty (ka .genuine .inside) (kb .genuine .inside) (quorum .intersects) few (ka .enough) (kb .enough) in
       let cw = below-correct n faulty w below is-correct in
-      signs-one-payload n q sender faulty (quorum .fits) trace lawful w first second cw (ka .genuine .signed w cw in-a) (kb .genuine .signed w cw in-b)
+      signs-one-payload q trace w (omega (arith, below, quorum .fits)) first second (ka .genuine .signed w cw in-a) (kb .genuine .signed w cw in-b)
 
   -- the sender is a signer of every delivered record, and has broadcast what it signed
   pub validity : Validity n q sender faulty d trace

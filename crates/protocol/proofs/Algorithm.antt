@@ -3,25 +3,25 @@
 -- receiving. Assumes nothing.
 use mathlib.Core.Path.{_≡_, refl, sym, ap, _∙_}
 use mathlib.Core.Logic.{inl, inr}
-use mathlib.Core.Bool.{Bool, true, false, cond, and-false, not}
-use mathlib.Core.List.{List, [], _∷_}
+use mathlib.Core.Bool.{Bool, true, false, cond, not, _&&_, and-false, true≢false}
+use mathlib.Core.List.{List, [], _∷_, _++_}
 use Prim.Native.Nat.{ℕ, _+_, _^_}
 use lib.Bits.{bitOr, or-zero-l, or-zero-r}
-use lib.Dec.{leb, ltb}
-use borrow.Author.Tests.{ltb-true, lt-leb, eq-eqb, le-leb, ltb-false}
+use lib.Dec.{leb, ltb, eqb}
+use borrow.Author.Tests.{ltb-true, lt-leb, eq-eqb, eqb-true, eqb-false, le-leb, ltb-false}
 use Rattle.octets.specs.Octets.{same}
 use Rattle.octets.proofs.Same.{same-says, same-self, same-flip}
-use Rattle.signers.specs.Signers.{member, insert, union, size}
+use Rattle.signers.specs.Signers.{member, insert, without, union, size}
 use Rattle.signers.proofs.Counting.{more-than-half}
-use Rattle.signers.proofs.Members.{nobody}
+use Rattle.signers.proofs.Members.{nobody, member-without}
 use Rattle.refusal.specs.Outcome.{unless}
-use Rattle.protocol.specs.Update.{Record, Empty, Held, Delivered, isEmpty, Update, kept, signed, delivered, announcedBy, updateReasons, joinedSigners, updateResult, update}
-use Rattle.protocol.specs.Algorithm.{State, Run, save, sign, bundleEffect, onBroadcast, line9, line5, andLine9, onBundle, keepOne, sendOnce, stateOf, effectsOf, SameState, BroadcastFollows, Follows, UnsignedIgnored, UpdateFollows, LeastQuorumIsLine9}
+use Rattle.protocol.specs.Update.{Record, Empty, Held, Delivered, isEmpty, isDelivered, holds, Update, kept, signed, delivered, announcedBy, updateReasons, joinedSigners, updateResult, update}
+use Rattle.protocol.specs.Algorithm.{State, Effect, broadcast, deliver, Run, save, sign, bundleEffect, onBroadcast, line9, line5, andLine9, onBundle, keepOne, sendOnce, stateOf, effectsOf, SameState, BroadcastFollows, valid, PassesOver, Follows, UnsignedIgnored, UpdateFollows, LeastQuorumIsLine9}
 
 -- ---- words and messages
 
 -- joining the word of one node inserts it
-one-joined : (sigs own : ℕ) → union sigs (insert 0 own) ≡ insert sigs own
+pub one-joined : (sigs own : ℕ) → union sigs (insert 0 own) ≡ insert sigs own
 unfolding insert
 one-joined sigs own = go (ltb own 64)
   where
@@ -89,23 +89,126 @@ module _ (own q sender sigs : ℕ) (m : List ℕ) (r : Record) where
   unfolding line9
   enough σ e f = rw (e, le-leb q (size sigs) (ltb-false (size sigs) q f))
 
+-- ---- which signatures are valid
+
+-- all of them where the bundle has none of p_i,
+pub valid-absent : (own : ℕ) (m : List ℕ) (sigs : ℕ) (σ : State) → member sigs own ≡ false → valid own m sigs σ ≡ sigs
+unfolding valid
+valid-absent own m sigs σ e = rw e
+
+-- or p_i has saved its own
+valid-saved : (own : ℕ) (m : List ℕ) (sigs : ℕ) (σ : State) → member (σ .saved m) own ≡ true → valid own m sigs σ ≡ sigs
+unfolding valid
+valid-saved own m sigs σ e = rw (e, and-false (member sigs own))
+
+-- and else those of the others
+valid-others : (own : ℕ) (m : List ℕ) (sigs : ℕ) (σ : State) → member sigs own ≡ true → member (σ .saved m) own ≡ false → valid own m sigs σ ≡ without sigs own
+unfolding valid
+valid-others own m sigs σ e f = rw (e, f)
+
+-- no other node's signature is passed over
+valid-unsigned : (own : ℕ) (m : List ℕ) (sigs sender : ℕ) (σ : State) → member sigs sender ≡ false → member (valid own m sigs σ) sender ≡ false
+unfolding valid
+valid-unsigned own m sigs sender σ e = go (member sigs own && not (member (σ .saved m) own))
+  where
+    go : (b : Bool) → member (cond b (without sigs own) sigs) sender ≡ false
+    go true = member-without sigs own sender ∙ rw e
+    go false = e
+
+-- the algorithm on a bundle whose valid signatures are known
+abbrev onValid : (own q sender : ℕ) (m : List ℕ) (found : ℕ) (σ : State) → Run
+onValid own q sender m found σ =
+    cond (not (σ .hasDelivered) && member found sender) (andLine9 own q sender m (line5 own q sender m (save m found σ))) (record { state = σ; effects = [] })
+
+on-valid : (own q sender : ℕ) (m : List ℕ) (sigs found : ℕ) (σ : State) → valid own m sigs σ ≡ found → onBundle own q sender m sigs σ ≡ onValid own q sender m found σ
+unfolding onBundle
+on-valid own q sender m sigs found σ e = rw e
+
 -- without its sender's signature a bundle does not pass line 3
 pub unsigned-ignored : UnsignedIgnored
-unfolding onBundle
 unsigned-ignored own q sender sigs m σ e =
-    rw (e, and-false (not (σ .hasDelivered))) (record { alike = λ x. refl; signed-alike = refl; delivered-alike = refl }, refl)
+    rw (on-valid own q sender m sigs (valid own m sigs σ) σ refl, valid-unsigned own m sigs sender σ e, and-false (not (σ .hasDelivered)))
+    (record { alike = λ x. refl; signed-alike = refl; delivered-alike = refl }, refl)
+
+-- ---- 23: a signature of p_i that p_i never made
+
+-- what line 9 comes to, by what is saved for the message
+line9-comes : (own q sender : ℕ) (m : List ℕ) (σ : State) (before : List Effect) (g : ℕ) → σ .saved m ≡ g → σ .hasSigned ≡ true → σ .hasDelivered ≡ false
+    → (andLine9 own q sender m (record { state = σ; effects = before }) .state .saved m ≡ g)
+    × ((x : List ℕ) → andLine9 own q sender m (record { state = σ; effects = before }) .state .saved x ≡ σ .saved x)
+    × (andLine9 own q sender m (record { state = σ; effects = before }) .state .hasSigned ≡ true)
+    × (andLine9 own q sender m (record { state = σ; effects = before }) .state .hasDelivered ≡ leb q (size g))
+    × (andLine9 own q sender m (record { state = σ; effects = before }) .effects ≡ before ++ cond (leb q (size g)) (broadcast g m ∷ deliver m ∷ []) [])
+unfolding andLine9 line9 bundleEffect
+line9-comes own q sender m σ before g e made waits = rw e (go (leb q (size g)))
+  where
+    delivering : Run
+    delivering = record { state = record { saved = σ .saved; hasSigned = σ .hasSigned; hasDelivered = true }; effects = broadcast g m ∷ deliver m ∷ [] }
+
+    waiting : Run
+    waiting = record { state = σ; effects = [] }
+
+    go : (full : Bool)
+        → ((cond {A = Run} full delivering waiting) .state .saved m ≡ g)
+        × ((x : List ℕ) → (cond {A = Run} full delivering waiting) .state .saved x ≡ σ .saved x)
+        × ((cond {A = Run} full delivering waiting) .state .hasSigned ≡ true)
+        × ((cond {A = Run} full delivering waiting) .state .hasDelivered ≡ full)
+        × (before ++ (cond {A = Run} full delivering waiting) .effects ≡ before ++ cond full (broadcast g m ∷ deliver m ∷ []) [])
+    go true = (e, λ x. refl, made, refl, refl)
+    go false = (e, λ x. refl, made, waits, refl)
+
+module _ (own q sender sigs : ℕ) (m : List ℕ) (present : member sigs sender ≡ true) (ours : member sigs own ≡ true) where
+  -- lines 4 to 12 with the others' signatures
+  goes-on : (r : Record) → isDelivered r ≡ false → holds r m ≡ false → eqb sender own ≡ false
+      → onBundle own q sender m sigs (stateOf r) ≡ andLine9 own q sender m (line5 own q sender m (save m (without sigs own) (stateOf r)))
+  unfolding stateOf
+  goes-on r waits apart other =
+      on-valid own q sender m sigs (without sigs own) (stateOf r) (valid-others own m sigs (stateOf r) ours (rw apart (nobody own)))
+      ∙ rw (waits, member-without sigs own sender, present, other)
+
+  -- or nothing, in the node's own slot
+  stops : (r : Record) → isDelivered r ≡ false → holds r m ≡ false → eqb sender own ≡ true
+      → onBundle own q sender m sigs (stateOf r) ≡ record { state = stateOf r; effects = [] }
+  unfolding stateOf
+  stops r waits apart same =
+      on-valid own q sender m sigs (without sigs own) (stateOf r) (valid-others own m sigs (stateOf r) ours (rw apart (nobody own)))
+      ∙ rw (waits, member-without sigs own sender, present, same)
+
+  -- lines 4 to 12 by the state of the record
+  lines : (r : Record) → isDelivered r ≡ false → holds r m ≡ false → eqb sender own ≡ false → PassesOver own q sender sigs m r
+  unfolding line5 sign save stateOf bundleEffect
+  lines Empty waits apart other =
+      let σ = sign own m (save m (without sigs own) (stateOf Empty)) in
+      let now : σ .saved m ≡ insert (without sigs own) own = rw (same-self m) (one-joined (without sigs own) own) in
+      let (saved, others, made, full, effects) = line9-comes own q sender m σ (broadcast (insert (without sigs own) own) m ∷ []) (insert (without sigs own) own) now refl refl in
+      rw (goes-on Empty refl refl other, now) (inr (eqb-false sender own other, saved, λ x h. others x ∙ rw h, made, full, effects))
+  lines (Held s p) waits apart other =
+      let σ = save m (without sigs own) (stateOf (Held s p)) in
+      let now : σ .saved m ≡ without sigs own = rw (same-self m, apart) in
+      let (saved, others, made, full, effects) = line9-comes own q sender m σ [] (without sigs own) now refl refl in
+      rw (goes-on (Held s p) refl apart other) (inr (eqb-false sender own other, saved, λ x h. others x ∙ rw h, made, full, effects))
+  lines (Delivered s p) waits apart other = absurd (true≢false waits)
+
+  passes-over : (r : Record) → isDelivered r ≡ false → holds r m ≡ false → PassesOver own q sender sigs m r
+  passes-over r waits apart = go (eqb sender own) refl
+    where
+      go : (b : Bool) → eqb sender own ≡ b → PassesOver own q sender sigs m r
+      go true same =
+          rw (stops r waits apart same) (inl (eqb-true sender own same, record { alike = λ x. refl; signed-alike = refl; delivered-alike = refl }, refl))
+      go false other = lines r waits apart other
 
 -- Empty: 23, or lines 4 to 12. Held: this message, and lines 4 and 9 to 12; or another, and 23, 24, or a full quorum at once. Delivered: 22.
 pub update-follows : UpdateFollows
 unfolding update updateReasons unless joinedSigners onBundle line5 andLine9 save sign stateOf keepOne bundleEffect
-update-follows own q sender sigs m Empty present = go (member sigs own) refl
+update-follows own q sender sigs m Empty present has = go (member sigs own) refl
   where
     go : (ours : Bool) → member sigs own ≡ ours → Follows own q sender sigs m Empty (update own q sigs m Empty)
-    go true e = rw e (inr (inl (refl, refl, e, nobody own)))
+    go true e = rw e (inr (inl (refl, refl, e, nobody own, passes-over own q sender sigs m present e Empty refl refl)))
     go false e =
         let saved = sign own m (save m sigs (stateOf Empty)) in
-        rw (e, present) (refl, refl, joins-alike own q sender sigs m Empty saved (rw (same-self m) (one-joined sigs own)) refl refl)
-update-follows own q sender sigs m (Held s p) present = go (same p m) refl (member sigs own) refl (ltb (size sigs) q) refl
+        rw (e, valid-absent own m sigs (stateOf Empty) e, present)
+        (refl, refl, joins-alike own q sender sigs m Empty saved (rw (same-self m) (one-joined sigs own)) refl refl)
+update-follows own q sender sigs m (Held s p) present has = go (same p m) refl (member sigs own) refl (ltb (size sigs) q) refl
   where
     saved : State
     saved = save m sigs (stateOf (Held s p))
@@ -118,14 +221,17 @@ update-follows own q sender sigs m (Held s p) present = go (same p m) refl (memb
     go : (held : Bool) → same p m ≡ held → (ours : Bool) → member sigs own ≡ ours → (few : Bool) → ltb (size sigs) q ≡ few
         → Follows own q sender sigs m (Held s p) (update own q sigs m (Held s p))
     go true h ours e few f =
-        rw (h, and-false (member sigs own), present) (refl, rw h, joins-alike own q sender sigs m (Held s p) saved (rw (same-self m, h)) refl refl)
-    go false h true e few f = rw (h, e) (inr (inl (refl, refl, e, rw h (nobody own))))
+        rw (h, and-false (member sigs own), valid-saved own m sigs (stateOf (Held s p)) (rw h has), present)
+        (refl, rw h, joins-alike own q sender sigs m (Held s p) saved (rw (same-self m, h)) refl refl)
+    go false h true e few f =
+        rw (h, e) (inr (inl (refl, refl, e, rw h (nobody own), passes-over own q sender sigs m present e (Held s p) refl h)))
     go false h false e true f =
         let quiet = too-few own q sender sigs m (Held s p) saved (rw (same-self m, h)) f in
         let back : SameState (keepOne p saved) (stateOf (Held s p)) = record { alike = λ x. dropped h x (same p x) refl; signed-alike = refl; delivered-alike = refl } in
-        rw (h, e, f, present, quiet) (inr (inr (refl, refl, rw h, back, refl)))
+        rw (h, e, f, valid-absent own m sigs (stateOf (Held s p)) e, present, quiet) (inr (inr (refl, refl, rw h, back, refl)))
     go false h false e false f =
         let full = enough own q sender sigs m (Held s p) saved (rw (same-self m, h)) f in
-        rw (h, e, f, present) (refl, rw h (ap not full), joins-alike own q sender sigs m (Held s p) saved (rw (same-self m, h)) refl refl)
-update-follows own q sender sigs m (Delivered s p) present =
+        rw (h, e, f, valid-absent own m sigs (stateOf (Held s p)) e, present)
+        (refl, rw h (ap not full), joins-alike own q sender sigs m (Held s p) saved (rw (same-self m, h)) refl refl)
+update-follows own q sender sigs m (Delivered s p) present has =
     inl (refl, refl, record { alike = λ x. refl; signed-alike = refl; delivered-alike = refl }, refl)

@@ -1,4 +1,5 @@
--- In the slot of a correct sender all records of correct nodes have the payload that the sender signed, and each of these nodes has signed it too.
+-- In the slot of a correct sender every record of a correct node that is not empty has the payload that the sender signed, and that node has signed it
+-- too.
 -- Assumes nothing.
 use mathlib.Core.Path.{_≡_, refl, _∙_}
 use mathlib.Core.Bool.{true, false, true≢false}
@@ -15,7 +16,8 @@ use Rattle.protocol.proofs.TraceLaws.{ever-grows}
 use Rattle.protocol.proofs.CorrectNodes.{correct-below}
 use Rattle.protocol.proofs.UpdateCases.{UpdateCase, refusing, broadcasting, signing, signing-and-delivering, joining, completing, replacing}
 use Rattle.protocol.proofs.TraceInduction.{NodeView, trace-induction}
-use Rattle.protocol.proofs.GenuineSignatures.{RecordGenuine, record-genuine, signs-one-payload}
+use Rattle.protocol.proofs.GenuineSignatures.{RecordGenuine, record-genuine}
+use Rattle.protocol.proofs.SignedSoFar.{signs-one-payload}
 
 -- the node has signed the payload of its record
 abbrev pub RecordSigned : (q : ℕ) (trace : Trace Act) (u : ℕ) (r : Record) → Type 0
@@ -55,7 +57,7 @@ module _ (n q sender : ℕ) (faulty : NodeSet) (fits : n ≤ 64) (good : correct
   record-signed-step earlier u caller act r o (replacing {signers = signers} {payload = payload} {held = held} other absent enough) view l c before e =
       let (then-lawful, caller-correct, (inside, has-sender, signed)) = l in
       let k = rw (view .found) at (record-genuine n q sender faulty fits earlier u then-lawful c) in
-      absurd (other (signs-one-payload n q sender faulty fits earlier then-lawful sender held payload good
+      absurd (other (signs-one-payload q earlier sender (omega (arith, correct-below n faulty sender good)) held payload
       (k .genuine .signed sender good (k .has-sender)) (signed sender good has-sender)))
 
   -- so it holds at every correct node after every lawful trace

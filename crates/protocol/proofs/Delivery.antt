@@ -23,7 +23,8 @@ use Rattle.protocol.proofs.CorrectNodes.{correct-below, correct-many}
 use Rattle.protocol.proofs.TraceLaws.{ever-finds, ever-mono}
 use Rattle.protocol.proofs.TraceInduction.{resultSends, resultSigns}
 use Rattle.protocol.proofs.SentSoFar.{delivered-record, record-delivered}
-use Rattle.protocol.proofs.GenuineSignatures.{RecordGenuine, record-genuine, signs-one-payload}
+use Rattle.protocol.proofs.GenuineSignatures.{RecordGenuine, record-genuine}
+use Rattle.protocol.proofs.SignedSoFar.{signs-one-payload}
 use Rattle.protocol.proofs.CorrectSender.{sender-signed, record-signed}
 use Rattle.protocol.proofs.ReceivedBundleKept.{BundleKept, bundle-kept}
 use Rattle.protocol.proofs.AgreementValidity.{delivered-genuine, agreement}
@@ -137,7 +138,7 @@ module _ (n t d q sender : ℕ) (faulty : NodeSet) (trace : Trace Act) (quorum :
       -- no record has another payload
       one-payload : (v : ℕ) → correct n faulty v ≡ true → isEmpty (currentRecord q trace v) ≡ false → payloadOf (currentRecord q trace v) ≡ payload
       one-payload v c e =
-          signs-one-payload n q sender faulty (quorum .fits) trace lawful sender (payloadOf (currentRecord q trace v)) payload good
+          signs-one-payload q trace sender (omega (arith, correct-below n faulty sender good, quorum .fits)) (payloadOf (currentRecord q trace v)) payload
           (sender-signed n q sender faulty (quorum .fits) good trace lawful v c e) sender-has
 
       -- a node that received a bundle with the payload has signed the payload

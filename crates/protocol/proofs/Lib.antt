@@ -1,11 +1,12 @@
 -- What is proved of the protocol on values: the theorem about one slot, from the laws of traces and updates; that an update follows the
--- paper's algorithm; and that two of the theorem's bounds are tight.
+-- paper's algorithm, and where it differs; and that the theorem's bounds are tight.
 pub mod CorrectNodes
 pub mod TraceLaws
 pub mod UpdateCases
 pub mod WellFormed
 pub mod TraceInduction
 pub mod SentSoFar
+pub mod SignedSoFar
 pub mod GenuineSignatures
 pub mod CorrectSender
 pub mod ReceivedBundleKept
@@ -13,5 +14,6 @@ pub mod AgreementValidity
 pub mod Delivery
 pub mod OneSlot
 pub mod Algorithm
+pub mod Differences
 pub mod ComputedTests
 pub mod Tight

@@ -18,6 +18,7 @@ use Rattle.protocol.specs.OneSlot.{Act, Receive, receives, currentRecord
 use Rattle.protocol.proofs.CorrectNodes.{correct-below}
 use Rattle.protocol.proofs.UpdateCases.{RefusalCase, own-signature-unknown, no-quorum, UpdateCase, refusing, broadcasting, signing, signing-and-delivering, joining, completing, replacing}
 use Rattle.protocol.proofs.TraceInduction.{NodeView, trace-induction}
+use Rattle.protocol.proofs.SignedSoFar.{SignedSoFar, signed-so-far}
 use Rattle.protocol.proofs.GenuineSignatures.{RecordGenuine, record-genuine}
 
 -- what holds of the record after the bundle
@@ -42,33 +43,33 @@ kept-still q u caller act r o given first (replacing other absent enough) h = tt
 module _ (n q sender : ℕ) (faulty : NodeSet) (fits : n ≤ 64) where
   -- a bundle that is refused: 22 leaves a delivered record, 23 cannot be, and 24 leaves another payload with fewer than q signers
   kept-refused : (earlier : Trace Act) (u caller signers : ℕ) (payload : List ℕ) (r : Record) → RefusalCase q u (Receive signers payload) r
-      → Allowed n q sender faulty earlier caller (Receive signers payload) → correct n faulty u ≡ true → RecordGenuine n q sender faulty earlier u r
+      → Allowed n q sender faulty earlier caller (Receive signers payload) → correct n faulty u ≡ true → RecordGenuine n q sender faulty earlier u r → SignedSoFar q earlier u r
       → BundleKept q signers payload r
-  kept-refused earlier u caller signers payload (Delivered old held) why a c k = tt
-  kept-refused earlier u caller signers payload Empty (own-signature-unknown own apart) a c k = absurd (k payload (a .2 u c own))
-  kept-refused earlier u caller signers payload (Held old held) (own-signature-unknown own apart) a c k =
-      absurd (true≢false (sym (same-self held) ∙ rw (k .signed-only .only payload (a .2 u c own)) at apart))
-  kept-refused earlier u caller signers payload (Held old held) (no-quorum other few) a c k =
+  kept-refused earlier u caller signers payload (Delivered old held) why a c k s = tt
+  kept-refused earlier u caller signers payload Empty (own-signature-unknown own apart) a c k s = absurd (s payload (a .2 u c own))
+  kept-refused earlier u caller signers payload (Held old held) (own-signature-unknown own apart) a c k s =
+      absurd (true≢false (sym (same-self held) ∙ rw (s .only payload (a .2 u c own)) at apart))
+  kept-refused earlier u caller signers payload (Held old held) (no-quorum other few) a c k s =
       let nonempty = size-some signers n sender (a .0) (a .1) in
       (k .few (omega arith), few, λ e. absurd (other (sym e)))
 
   -- a bundle that is received now
   kept-now : (earlier : Trace Act) (u caller signers : ℕ) (payload : List ℕ) (r : Record) (o : Outcome Update) → u ≡ caller
       → UpdateCase q u caller (Receive signers payload) r o
-      → Allowed n q sender faulty earlier caller (Receive signers payload) → correct n faulty u ≡ true → RecordGenuine n q sender faulty earlier u r
+      → Allowed n q sender faulty earlier caller (Receive signers payload) → correct n faulty u ≡ true → RecordGenuine n q sender faulty earlier u r → SignedSoFar q earlier u r
       → BundleKept q signers payload (after o (λ result. result .newRecord) r)
-  kept-now earlier u caller signers payload r o own (refusing why) a c k = kept-refused earlier u caller signers payload r (why own) a c k
-  kept-now earlier u caller signers payload r o own (signing absent few) a c k =
+  kept-now earlier u caller signers payload r o own (refusing why) a c k s = kept-refused earlier u caller signers payload r (why own) a c k s
+  kept-now earlier u caller signers payload r o own (signing absent few) a c k s =
       let room : u < 64 = omega (arith, correct-below n faulty u c) in
       (few, omega (arith, size-insert signers u room absent), λ e v m. insert-keeps signers u v room m)
-  kept-now earlier u caller signers payload r o own (signing-and-delivering absent enough) a c k = tt
-  kept-now earlier u caller signers payload r o own (joining {old = old} few) a c k =
+  kept-now earlier u caller signers payload r o own (signing-and-delivering absent enough) a c k s = tt
+  kept-now earlier u caller signers payload r o own (joining {old = old} few) a c k s =
       let inside = within-union old signers n (k .genuine .inside) (a .0) in
       let larger =
       size-mono signers (union old signers) n (within-lt signers n (a .0)) (within-lt (union old signers) n inside) (λ v l m. union-right old signers v m) in
       (few, omega arith, λ e v m. union-right old signers v m)
-  kept-now earlier u caller signers payload r o own (completing enough) a c k = tt
-  kept-now earlier u caller signers payload r o own (replacing other absent enough) a c k = tt
+  kept-now earlier u caller signers payload r o own (completing enough) a c k s = tt
+  kept-now earlier u caller signers payload r o own (replacing other absent enough) a c k s = tt
 
   -- it holds after one act more, for the bundles received before and for the one received now
   kept-step : (earlier : Trace Act) (u caller : ℕ) (act : Act) (r : Record) (o : Outcome Update)
@@ -84,6 +85,7 @@ module _ (n q sender : ℕ) (faulty : NodeSet) (fits : n ≤ 64) where
       go (inl (own, this)) =
           kept-now earlier u caller signers payload r o own (rw this at kind) (rw this at (l .2)) c
           (rw (view .found) at (record-genuine n q sender faulty fits earlier u (l .0) c))
+          (rw (view .found) at (signed-so-far q earlier u (omega (arith, correct-below n faulty u c))))
       go (inr h) = kept-still q u caller act r o signers payload kind (before signers payload h)
 
   -- so it holds for every bundle that a correct node received, after every lawful trace

@@ -7,7 +7,7 @@ use mathlib.Core.List.{List}
 use Prim.Native.Nat.{ℕ, _+_, _≤_}
 use native.Mathlib.Omega.{arith}
 use lib.Count.{ones}
-use lib.Dec.{lit≤, lit<}
+use lib.Dec.{leb, lit≤, lit<}
 use lib.ListN.{replicate}
 use borrow.Author.Tests.{ltb-true, not-true}
 use Rattle.octets.specs.Octets.{same}
@@ -17,8 +17,8 @@ use Rattle.refusal.specs.Outcome.{unless}
 use Rattle.protocol.specs.Update.{announcedBy, updateReasons, joinedSigners, updateResult, update}
 use Rattle.protocol.specs.Trace as trace
 use Rattle.protocol.specs.Trace.{Trace, start, _then_calls_, each, state}
-use Rattle.protocol.specs.OneSlot.{Act, Broadcast, Receive, outcome, recordAfter, signs, delivers, deliversThis, broadcasts, broadcastsThis, receives, ever}
-use Rattle.protocol.specs.Tight.{only, QuorumTight, ReachTight}
+use Rattle.protocol.specs.OneSlot.{Act, Broadcast, Receive, outcome, recordAfter, sends, signs, delivers, deliversThis, broadcasts, broadcastsThis, receives, ever}
+use Rattle.protocol.specs.Tight.{only, notRefused, QuorumTight, ReachableTight, BoundsAskResilience, ReachTight, FaultyTight, ForgedTight, SendsTight}
 use Rattle.protocol.proofs.ComputedTests.{each-says, allowed-test, lawful-test, lawful-says, nearly-test, sent-test, reached-from, reached-test, reached-says}
 
 -- two payloads
@@ -60,6 +60,9 @@ quorum-tight = (
   λ agreement. true≢false (ap (same first) (agreement 0 2 first second refl refl refl refl)),
 )
 
+pub bounds-ask-resilience : BoundsAskResilience
+bounds-ask-resilience n t d q intersects reachable = omega arith
+
 -- 0 broadcasts. Its bundle comes back to it and reaches 1, which signs; the bundle of the two reaches 0 and comes back to 1. Node 2 receives
 -- nothing. Signers as words: 1 is 0 alone, 3 is 0 and 1.
 missed : Trace Act
@@ -83,4 +86,93 @@ reach-tight = (
   reached-says 4 3 0 (only 3) (0 + 1) missed refl,
   λ u is-correct. not-true _ (each-says (λ v. not (ever 3 (delivers 3) missed v)) 4 u refl (ltb-true u 4 (and-eq-true-iff _ _ .0 is-correct .0))),
   λ delivery. let none : 3 ≤ 0 = delivery 0 first refl (inl (refl, refl)) in absurd (omega arith),
+)
+
+-- 0 broadcasts, and its bundle reaches all three. 1 and 2 sign it, each with 0 alone, and both bundles reach all three. Signers as words: 1 is 0 alone, 3 is 0 and
+-- 1, 5 is 0 and 2.
+unreachable : Trace Act
+unreachable =
+    start
+    then 0 calls Broadcast first
+    then 0 calls Receive 1 first
+    then 1 calls Receive 1 first
+    then 2 calls Receive 1 first
+    then 0 calls Receive 3 first
+    then 1 calls Receive 3 first
+    then 2 calls Receive 3 first
+    then 0 calls Receive 5 first
+    then 1 calls Receive 5 first
+    then 2 calls Receive 5 first
+
+-- nobody has more than three of the four signers needed
+pub reachable-tight : ReachableTight
+unfolding unreachable lawful-test allowed-test nearly-test sent-test reached-from reached-test each trace.ever state count outcome recordAfter announcedBy update updateReasons
+    unless joinedSigners updateResult member insert within ones signs delivers deliversThis broadcasts broadcastsThis receives same
+reachable-tight = (
+  unreachable,
+  lit≤ tt,
+  lit< tt,
+  refl,
+  lit≤ tt,
+  lawful-says 4 4 0 (only 3) unreachable refl,
+  reached-says 4 4 0 (only 3) 0 unreachable refl,
+  λ u is-correct. not-true _ (each-says (λ v. not (ever 4 (delivers 4) unreachable v)) 4 u refl (ltb-true u 4 (and-eq-true-iff _ _ .0 is-correct .0))),
+  λ delivery. let none : 3 ≤ 0 = delivery 0 first refl (inl (refl, refl)) in absurd (omega arith),
+)
+
+-- 12 is 2 and 3
+two-faulty : Trace Act
+two-faulty =
+    start
+    then 0 calls Receive 12 first
+    then 1 calls Receive 12 second
+
+pub faulty-tight : FaultyTight
+unfolding two-faulty lawful-test allowed-test each trace.ever state count outcome recordAfter update updateReasons unless joinedSigners updateResult
+    member insert within ones signs deliversThis same
+faulty-tight = (
+  two-faulty,
+  record { fits = lit≤ tt; intersects = lit< tt; reachable = lit≤ tt },
+  refl,
+  lawful-says 4 3 3 (leb 2) two-faulty refl,
+  λ agreement. true≢false (ap (same first) (agreement 0 1 first second refl refl refl refl)),
+)
+
+-- 14 is all but 0, and 13 all but 1
+forged : Trace Act
+forged =
+    start
+    then 0 calls Receive 14 first
+    then 1 calls Receive 13 second
+
+pub forged-tight : ForgedTight
+unfolding forged trace.ever state count outcome recordAfter update updateReasons unless joinedSigners updateResult member insert within ones deliversThis same
+forged-tight = (
+  forged,
+  record { fits = lit≤ tt; intersects = lit< tt; reachable = lit≤ tt },
+  lit≤ tt,
+  ((tt, refl, refl, refl), refl, refl, refl),
+  λ agreement. true≢false (ap (same first) (agreement 0 1 first second refl refl refl refl)),
+)
+
+-- 1 signs the bundle of 0, keeps it when it comes again, and delivers once 2 has signed too
+three-answers : Trace Act
+three-answers =
+    start
+    then 0 calls Broadcast first
+    then 1 calls Receive 1 first
+    then 1 calls Receive 1 first
+    then 2 calls Receive 1 first
+    then 1 calls Receive 5 first
+
+pub sends-tight : SendsTight
+unfolding three-answers lawful-test allowed-test each trace.ever trace.times state count outcome recordAfter announcedBy update updateReasons unless joinedSigners updateResult
+    member insert within ones sends signs broadcasts broadcastsThis same notRefused
+sends-tight = (
+  three-answers,
+  record { fits = lit≤ tt; intersects = lit< tt; reachable = lit≤ tt },
+  lit≤ tt,
+  lawful-says 4 3 0 (only 3) three-answers refl,
+  refl,
+  refl,
 )

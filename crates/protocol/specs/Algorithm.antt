@@ -9,9 +9,9 @@ use mathlib.Core.List.{List, [], _∷_, _++_}
 use Prim.Native.Nat.{ℕ, _+_, _/_}
 use lib.Dec.{leb, ltb, eqb}
 use Rattle.octets.specs.Octets.{same}
-use Rattle.signers.specs.Signers.{member, insert, union, size}
+use Rattle.signers.specs.Signers.{member, insert, without, union, size}
 use Rattle.refusal.specs.Outcome.{Outcome, refused, done}
-use Rattle.protocol.specs.Update.{Record, Empty, signersOf, payloadOf, isEmpty, isDelivered, holds, holdsOther, Update, sends, delivers, announcedBy, update}
+use Rattle.protocol.specs.Update.{Record, Empty, Held, Delivered, signersOf, payloadOf, isEmpty, isDelivered, holds, holdsOther, Update, sends, delivers, announcedBy, update}
 
 -- ---- the paper's algorithm
 
@@ -56,6 +56,11 @@ onBroadcast own m σ = record { state = sign own m σ; effects = bundleEffect m 
 abbrev pub LeastQuorumIsLine9 : Type 0
 LeastQuorumIsLine9 = (n t k : ℕ) → leb ((n + t) / 2 + 1) k ≡ ltb (n + t) (k + k)
 
+-- The signatures of `sigs` that are valid for p_i. A set bit of another process is a signature that the key chip found valid; the one of p_i itself counts only if
+-- p_i made it, and what p_i makes it saves.
+unfoldable pub valid : (own : ℕ) (m : List ℕ) (sigs : ℕ) (σ : State) → ℕ
+valid own m sigs σ = cond (member sigs own && not (member (σ .saved m) own)) (without sigs own) sigs
+
 module _ (own q sender : ℕ) (m : List ℕ) where
   -- lines 9 to 12, with the quorum q: "if (strictly more than (n + t)/2 signatures for (m, sn, j) are saved) then broadcast ..; mbrb_deliver(m, sn, j)"
   unfoldable pub line9 : (σ : State) → Run
@@ -79,7 +84,7 @@ module _ (own q sender : ℕ) (m : List ℕ) where
   -- for (m, sn, j) by p_j) then", line 4: "save all unsaved valid signatures for (m, sn, j) of sigs"
   unfoldable pub onBundle : (sigs : ℕ) (σ : State) → Run
   onBundle sigs σ =
-      cond (not (σ .hasDelivered) && member sigs sender) (andLine9 (line5 (save m sigs σ))) (record { state = σ; effects = [] })
+      cond (not (σ .hasDelivered) && member (valid own m sigs σ) sender) (andLine9 (line5 (save m (valid own m sigs σ) σ))) (record { state = σ; effects = [] })
 
 -- ---- the differences of document 01
 
@@ -125,13 +130,31 @@ module _ (own q sender : ℕ) (sigs : ℕ) (m : List ℕ) (r : Record) where
   abbrev run : Run
   run = onBundle own q sender m sigs (stateOf r)
 
+  -- What p_i has saved for m once it has passed over the signature of its own that it never made: those of the others, and its own where it signs now.
+  abbrev pub savedPassingOver : ℕ
+  savedPassingOver = cond (isEmpty r) (insert (without sigs own) own) (without sigs own)
+
+  -- And what it does: nothing where that signature is the one of p_j, which is p_i itself then, since line 3 fails; else it signs and broadcasts, if it has signed
+  -- nothing in the slot, and broadcasts and delivers, if it has a quorum then.
+  abbrev pub PassesOver : Type 0
+  PassesOver =
+      ((sender ≡ own) × SameState (run .state) (stateOf r) × (run .effects ≡ []))
+      ⊎ ((sender ≡ own → ⊥)
+      × (run .state .saved m ≡ savedPassingOver)
+      × ((x : List ℕ) → same x m ≡ false → run .state .saved x ≡ stateOf r .saved x)
+      × (run .state .hasSigned ≡ true)
+      × (run .state .hasDelivered ≡ leb q (size savedPassingOver))
+      × (run .effects
+      ≡ cond (isEmpty r) (broadcast savedPassingOver m ∷ []) []
+      ++ cond (leb q (size savedPassingOver)) (broadcast savedPassingOver m ∷ deliver m ∷ []) []))
+
   -- Done: the slot was not delivered, and if the record held another message, the paper delivers this one now. Of the paper's state what is saved for
   -- this message stays: it is the message held before, or the first, or the one delivered now. What is sent is what the paper sends, without the
   -- repeated bundle, and what is delivered is what the paper delivers.
   -- 22: line 3 fails, and the paper does nothing either.
-  -- 23: the bundle has a signature of p_i for m, and p_i, which has delivered nothing and so dropped none of its own, has not saved one. It never
-  -- made it. A set bit is a signature that the key chip found valid, so where signatures are secure there is no such bundle; the paper would
-  -- pass over an invalid signature and go on, and document 01 refuses the bundle.
+  -- 23: the bundle has a signature of p_i for m, and p_i, which has delivered nothing and so dropped none of its own, has not saved one. It never made
+  -- it. Where no signature is forged there is no such bundle (system's `NeverOwnUnknown`). The paper passes over that one signature, since it is not valid, and goes on with the others;
+  -- document 01 refuses the bundle.
   -- 24: the paper saves the signatures for another message (line 4) and does nothing else; we drop them.
   abbrev pub Follows : Outcome Update → Type 0
   Follows (done result) =
@@ -140,7 +163,7 @@ module _ (own q sender : ℕ) (sigs : ℕ) (m : List ℕ) (r : Record) where
       × (SameState (stateOf (result .newRecord)) (keepOne m (run .state)) × (effectsOf result ≡ sendOnce (run .effects)))
   Follows (refused number) =
       ((number ≡ 22) × (stateOf r .hasDelivered ≡ true) × SameState (run .state) (stateOf r) × (run .effects ≡ []))
-      ⊎ ((number ≡ 23) × (isDelivered r ≡ false) × (member sigs own ≡ true) × (member (stateOf r .saved m) own ≡ false))
+      ⊎ ((number ≡ 23) × (isDelivered r ≡ false) × (member sigs own ≡ true) × (member (stateOf r .saved m) own ≡ false) × PassesOver)
       ⊎ ((number ≡ 24) × (isDelivered r ≡ false) × (holdsOther r m ≡ true) × SameState (keepOne (payloadOf r) (run .state)) (stateOf r) × (run .effects ≡ []))
 
 -- 8: where the sender's signature is missing line 3 fails, and the paper does nothing.
@@ -149,7 +172,13 @@ UnsignedIgnored =
     (own q sender sigs : ℕ) (m : List ℕ) (σ : State) → member sigs sender ≡ false
     → SameState (onBundle own q sender m sigs σ .state) σ × (onBundle own q sender m sigs σ .effects ≡ [])
 
--- Receiving follows the algorithm with the same quorum, for a bundle that has its sender's signature.
+-- a held record has the node's own signature
+abbrev pub HasOwn : (own : ℕ) → Record → Type 0
+HasOwn own Empty = Unit
+HasOwn own (Held signers payload) = member signers own ≡ true
+HasOwn own (Delivered signers payload) = Unit
+
+-- Receiving follows the algorithm with the same quorum, for a bundle that has its sender's signature and a record that is as the node left it.
 abbrev pub UpdateFollows : Type 0
 UpdateFollows =
-    (own q sender sigs : ℕ) (m : List ℕ) (r : Record) → member sigs sender ≡ true → Follows own q sender sigs m r (update own q sigs m r)
+    (own q sender sigs : ℕ) (m : List ℕ) (r : Record) → member sigs sender ≡ true → HasOwn own r → Follows own q sender sigs m r (update own q sigs m r)

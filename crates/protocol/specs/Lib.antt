@@ -3,4 +3,5 @@ pub mod Update
 pub mod Algorithm
 pub mod Trace
 pub mod OneSlot
+pub mod Differences
 pub mod Tight

@@ -1,5 +1,5 @@
--- One slot at all correct nodes together, on values: the argument of demand 3. A trace has the acts in this slot and nothing else, so bytes,
--- days and other slots do not occur in it. The quorum q is any number within the bounds of `Quorum`.
+-- One slot at all correct nodes together, on values: the argument of demand 3. A trace has the acts in this slot and nothing else, so days, other
+-- slots and the bytes of bundles and records do not occur in it. The quorum q is any number within the bounds of `Quorum`.
 -- The theorem about the calls themselves is stated in the crate `system`, and rests on this one. It is proved in proofs/OneSlot.antt.
 -- Assumes nothing.
 use mathlib.Core.Path.{_≡_}

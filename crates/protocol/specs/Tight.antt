@@ -1,18 +1,24 @@
--- Two bounds of the theorem of specs/OneSlot.antt cannot be weakened: for each there is a trace that keeps every other premise and at which a
--- conclusion fails. They are proved in proofs/Tight.antt.
+-- What the theorem of specs/OneSlot.antt assumes of the quorum's two bounds, faults, signatures and reaching cannot be left out: for each there is a trace that keeps every
+-- other premise and at which a conclusion fails. And what it concludes on sending is exact. They are proved in proofs/Tight.antt, by traces that are written
+-- out and computed. That n is at most 64 is for the word of signers, which has no bit for more.
 -- Assumes nothing.
 use mathlib.Core.Path.{_≡_}
-use mathlib.Core.Bool.{true, false}
+use mathlib.Core.Bool.{Bool, true, false}
 use mathlib.Core.List.{List}
-use Prim.Native.Nat.{ℕ, _+_, _≤_}
-use lib.Dec.{eqb}
+use Prim.Native.Nat.{ℕ, _+_, _*_, _≤_, _<_}
+use lib.Dec.{eqb, leb}
 use Rattle.signers.specs.Sets.{NodeSet, count}
-use Rattle.protocol.specs.Trace.{Trace}
-use Rattle.protocol.specs.OneSlot.{Act, ever, delivers, deliversThis, correct, Quorum, Lawful, Reached, Agreement, Delivery}
+use Rattle.signers.specs.Signers.{member, within}
+use Rattle.refusal.specs.Outcome.{after}
+use Rattle.protocol.specs.Update.{Record}
+use Rattle.protocol.specs.Trace.{Trace, start, _then_calls_}
+use Rattle.protocol.specs.OneSlot.{Act, Broadcast, Receive, outcome, sends, ever, times, delivers, deliversThis, correct, Quorum, Lawful, Reached, Agreement, Delivery}
 
 -- the set of one node alone
 abbrev pub only : (node : ℕ) → NodeSet
 only v u = eqb u v
+
+-- ---- the quorum
 
 -- Document 01, "Where a careful hand still errs": "Rounding (n + t)/2 up for q: with 5, 1, 0 that is 3, and a faulty sender makes two sound
 -- pairs deliver different bodies." The sender is node 4, the pairs are 0 and 1, and 2 and 3. Of the bounds of `Quorum` the other two hold, and
@@ -33,6 +39,26 @@ QuorumTight =
     × (ever 3 (deliversThis 3 second) list 3 ≡ true)
     × (Agreement 5 3 4 (only 4) 0 list → ⊥)
 
+-- A quorum of n - t - d + 1 is out of reach. With 4, 1, 0 that is 4: node 3 is faulty and silent, every bundle that a correct node sends is received by all
+-- three correct nodes, and none delivers. Of the bounds of `Quorum` the other two hold.
+abbrev pub ReachableTight : Type 0
+ReachableTight =
+    (list : Trace Act)
+    × (4 ≤ 64)
+    × (4 + 1 < 4 + 4)
+    × (4 + 1 + 0 ≡ 4 + 1)
+    × (count (only 3) 4 ≤ 1)
+    × Lawful 4 4 0 (only 3) list
+    × Reached 4 4 0 (only 3) 0 list
+    × ((u : ℕ) → correct 4 (only 3) u ≡ true → ever 4 (delivers 4) list u ≡ false)
+    × (Delivery 4 4 0 (only 3) 0 list → ⊥)
+
+-- The two bounds leave room for a quorum only where n is more than 3t + 2d, which is why a good configuration asks it.
+abbrev pub BoundsAskResilience : Type 0
+BoundsAskResilience = (n t d q : ℕ) → n + t < q + q → q + t + d ≤ n → 3 * t + 2 * d < n
+
+-- ---- what is reached
+
 -- "If every bundle sent by a sound unit has by then reached at least c - d sound units": reaching c - d - 1 of them is too little. With 4, 1, 0
 -- and node 3 faulty, the sender 0 broadcasts, each bundle that a correct node sends is received by all correct nodes but one, and no correct node
 -- delivers.
@@ -45,3 +71,49 @@ ReachTight =
     × Reached 4 3 0 (only 3) (0 + 1) list
     × ((u : ℕ) → correct 4 (only 3) u ≡ true → ever 3 (delivers 3) list u ≡ false)
     × (Delivery 4 3 0 (only 3) 0 list → ⊥)
+
+-- ---- faults and signatures
+
+-- With t + 1 faulty nodes nothing is claimed: with 4, 1, 0 and nodes 2 and 3 faulty, both sign two payloads in the slot of 3. Each of the two correct nodes adds its own
+-- signature to one of them, which makes a quorum, and they deliver different payloads.
+abbrev pub FaultyTight : Type 0
+FaultyTight =
+    (list : Trace Act)
+    × Quorum 4 1 0 3
+    × (count (leb 2) 4 ≡ 1 + 1)
+    × Lawful 4 3 3 (leb 2) list
+    × (Agreement 4 3 3 (leb 2) 0 list → ⊥)
+
+-- what `Lawful` asks but for correct nodes' signatures: a bundle may show one that was never made
+abbrev pub LawfulButSignatures : (n sender : ℕ) (faulty : NodeSet) → Trace Act → Type 0
+LawfulButSignatures n sender faulty start = Unit
+LawfulButSignatures n sender faulty (earlier then u calls Broadcast payload) =
+    LawfulButSignatures n sender faulty earlier × (correct n faulty u ≡ true) × (u ≡ sender)
+LawfulButSignatures n sender faulty (earlier then u calls Receive signers payload) =
+    LawfulButSignatures n sender faulty earlier × (correct n faulty u ≡ true) × (within signers n ≡ true) × (member signers sender ≡ true)
+
+-- With correct nodes' signatures forged nothing is claimed: with 4, 1, 0 and node 3 faulty, 0 receives one payload as if 1 and 2 had signed it, and 1 another as if
+-- 0 and 2 had.
+abbrev pub ForgedTight : Type 0
+ForgedTight =
+    (list : Trace Act)
+    × Quorum 4 1 0 3
+    × (count (only 3) 4 ≤ 1)
+    × LawfulButSignatures 4 3 (only 3) list
+    × (Agreement 4 3 3 (only 3) 0 list → ⊥)
+
+-- ---- what is sent
+
+-- the act is not refused
+unfoldable pub notRefused : (q own : ℕ) (act : Act) (r : Record) → Bool
+notRefused q own act r = after (outcome q own act r) (λ result. true) false
+
+-- Two bundles are sent, so that no smaller bound holds; and a node that sent on every bundle that it does not refuse, kept ones too, would send three.
+abbrev pub SendsTight : Type 0
+SendsTight =
+    (list : Trace Act)
+    × Quorum 4 1 0 3
+    × (count (only 3) 4 ≤ 1)
+    × Lawful 4 3 0 (only 3) list
+    × (times 3 (sends 3) list 1 ≡ 2)
+    × (times 3 (notRefused 3) list 1 ≡ 3)

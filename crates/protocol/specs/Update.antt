@@ -1,5 +1,5 @@
 -- What a node keeps of a slot, and what broadcasting and receiving do to it, on values: document 01, "Bundle and record" and "Calls".
--- Bytes, lengths, days and places do not occur here. `own` is the node and `q` the quorum.
+-- Lengths, days, places and the bytes of bundles and records do not occur here. `own` is the node and `q` the quorum.
 -- Assumes nothing.
 use mathlib.Core.Bool.{Bool, true, false, cond, not, _&&_}
 use mathlib.Core.List.{List, [], _∷_}

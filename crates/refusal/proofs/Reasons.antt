@@ -1,11 +1,13 @@
 -- A list of reasons, of which the first that applies counts: how a chain of checks goes through it, and what is known where
 -- none applied. Every call's refusals go by these laws.
 -- Assumes nothing.
-use mathlib.Core.Path.{_≡_, refl, sym, ap}
-use mathlib.Core.Bool.{Bool, true, false, not, _&&_, and-eq-true-iff}
+use mathlib.Core.Path.{_≡_, refl, sym, ap, _∙_}
+use mathlib.Core.Bool.{Bool, true, false, not, _&&_, _||_, and-false, and-eq-true-iff, true≢false}
 use mathlib.Core.List.{List, [], _∷_, _++_}
 use Prim.Native.Nat.{ℕ}
 use native.Mathlib.Omega.{arith}
+use lib.Dec.{eqb}
+use borrow.Author.Tests.{eq-eqb}
 use Rattle.refusal.specs.Outcome.{Outcome, refused, done, Reason, _if_, unless, after, plain, _and-then_}
 
 -- none of the reasons applies
@@ -77,18 +79,17 @@ pub no-effect : {A B : Type 0} (outcome : Outcome A) (result : A → B) (before 
     → (refused number ≡ plain outcome) × (before ≡ after outcome result before)
 no-effect outcome result before number e = (rw e, rw e)
 
--- a refusal by another number comes from the reasons after
-pub refused-later : {A : Type 0} (number other : ℕ) (applies : Bool) (rest : List Reason) (work : A) → (number ≡ other → ⊥)
-    → unless ((number if applies) ∷ rest) work ≡ refused other → unless rest work ≡ refused other
-unfolding unless
-refused-later number other true rest work apart e = absurd (apart cc)
-refused-later number other false rest work apart e = e
+-- some reason with this number applies
+abbrev pub asked : (number : ℕ) → List Reason → Bool
+asked number [] = false
+asked number ((other if applies) ∷ rest) = (eqb other number && applies) || asked number rest
 
--- and one by the last number is that of the last reason
-pub refused-last : {A : Type 0} (number : ℕ) (applies : Bool) (work : A) → unless ((number if applies) ∷ []) work ≡ refused number → applies ≡ true
+-- a refusal is by a reason that applies
+pub refused-asked : {A : Type 0} (reasons : List Reason) (work : A) (number : ℕ) → unless reasons work ≡ refused number → asked number reasons ≡ true
 unfolding unless
-refused-last number true work e = refl
-refused-last number false work e = absurd (refused-not-done number work (sym e))
+refused-asked [] work number e = absurd (refused-not-done number work (sym e))
+refused-asked ((other if true) ∷ rest) work number e = rw (eq-eqb other number cc)
+refused-asked ((other if false) ∷ rest) work number e = rw (and-false (eqb other number)) (refused-asked rest work number e)
 
 -- what is left depends on the result of the work given
 pub after-same : {A B : Type 0} (reasons : List Reason) (work : A) (result other : A → B) (before : B) → result work ≡ other work
@@ -146,3 +147,14 @@ pub then-comes : {A B : Type 0} (test : ℕ → Bool) (claim : B → Type 0) (ou
     → Comes test (λ _. Unit) outcome → ((work : A) → Comes test claim (next work)) → Comes test claim (outcome and-then next)
 then-comes test claim (refused number) next h later = h
 then-comes test claim (done work) next h later = later work
+
+-- a refusal by a number that none of the first reasons has passed them all
+pub refused-clear : {A : Type 0} (number : ℕ) (first second : List Reason) (work : A) → numbersPass (λ k. not (eqb k number)) first ≡ true
+    → unless (first ++ second) work ≡ refused number → Clear first
+unfolding unless
+refused-clear number [] second work others e = tt
+refused-clear number ((other if true) ∷ rest) second work others e =
+    let same : other ≡ number = cc in
+    absurd (true≢false (sym (and-eq-true-iff (not (eqb other number)) (numbersPass (λ k. not (eqb k number)) rest) .0 others .0) ∙ rw (eq-eqb other number same)))
+refused-clear number ((other if false) ∷ rest) second work others e =
+    (refl, refused-clear number rest second work (and-eq-true-iff (not (eqb other number)) (numbersPass (λ k. not (eqb k number)) rest) .0 others .1) e)

@@ -24,7 +24,7 @@ pub enum Refusal {
     NotDelivered,
 }
 
-// The answer of a call that gives nothing but its word.
+// The answer of a call that has nothing to tell where it did its work.
 pub enum Verdict {
     Done,
     Refused(Refusal),

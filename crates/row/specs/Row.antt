@@ -37,7 +37,7 @@ configIn line = record {
   day = value 10 0 (afterFields 3 line);
 }
 
--- "a bad table row (not four plain numbers that fit, or a table not good)"
+-- the line is no "bad table row": it has four plain numbers that fit, and the table is good
 unfoldable pub isTable : (line : List ℕ) → Bool
 isTable line =
     plainUpTo 255 (field 0 line)
@@ -79,7 +79,7 @@ module _ (line : List ℕ) where
       At node (Receive (value 10 0 (field 2 line)) (value 10 0 (field 3 line)) (value 16 0 (field 4 line)) (payloadOfDigits payloadDigits))
 
 module _ (n : ℕ) (line : List ℕ) where
-  -- "with a unit n or above"
+  -- the unit is one of the n: a row "with a unit n or above" is unread
   unfoldable pub inSystem : Bool
   inSystem = plainUpTo 255 (field 1 line) && ltb (node line) n
 
@@ -92,7 +92,7 @@ module _ (n : ℕ) (line : List ℕ) where
       && (absent (field 4 line)
       && hex 32 (payloadDigits line))))
 
-  -- the fields after act B: "sender or number above 255"
+  -- the fields after act B: sender and number are 255 at most, and - stands for none of them
   unfoldable pub receiveFields : Bool
   receiveFields =
       inSystem
@@ -108,7 +108,7 @@ module _ (n : ℕ) (line : List ℕ) where
   unfoldable pub isReceive : Bool
   isReceive = same (act line) (ascii "B") && receiveFields
 
-  -- "A step row over 120 bytes, or not of this shape, or with a unit n or above, sender or number above 255, prints" that it is unread
+  -- the row that a line gives. Unread is "A step row over 120 bytes, or not of this shape, or with a unit n or above, sender or number above 255"
   unfoldable pub rowIn : StepRow
   rowIn =
       cond (leb (length line) 120)

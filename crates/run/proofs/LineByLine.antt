@@ -2,7 +2,7 @@
 -- the records that the calls before it left.
 -- Assumes nothing.
 use mathlib.Core.Path.{_≡_, refl, sym, ap, ap₂, _∙_, fun-ext}
-use mathlib.Core.Bool.{Bool, true, false, cond, _&&_, and-eq-true-iff}
+use mathlib.Core.Bool.{Bool, true, false, cond, _&&_}
 use mathlib.Core.List.{List, [], _∷_, _++_, append-assoc}
 use Prim.Native.Nat.{ℕ, suc, _+_, _-_, _^_, _≤_, _<_}
 use native.Mathlib.Nat.{mod-eq-of-lt}
@@ -104,7 +104,7 @@ module _ (ordinal : ℕ) (records : List ℕ) (size : length records ≡ records
           (ap (λ (k : ℕ). playedText (stepping w 1) (openedUpTo w k records) rows) (all-played w few)
           ∙ rows-print w few 1 (openings w (w .n)) (openedUpTo w (w .n) records) (opened-plays w few g records size) rows fits
           ∙ ap (λ (counts : ℕ → ℕ → ℕ). rowsText w (openings w (w .n)) 1 rows ++ summaryText w counts)
-          (fun-ext (λ sender. fun-ext (λ seq. delivered-are-shown w rows g dated sender seq))))
+          (fun-ext (λ sender. fun-ext (λ seq. delivered-are-shown w rows g dated sender seq .1))))
       go false = no-table-prints (atNames w ordinal) records rows
 
   -- from the table row on

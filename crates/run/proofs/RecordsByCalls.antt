@@ -1,5 +1,5 @@
 -- The records of a run as it is played are those that its list of calls leaves at each node: so after the openings, and after each row. So a row
--- prints what specs/Run.antt says of it, and the last rows count the same nodes.
+-- prints what specs/Run.antt says of it, and the last rows count as many nodes as show a slot after the calls.
 -- Assumes nothing.
 use mathlib.Core.Path.{_≡_, refl, sym, ap, _∙_, fun-ext}
 use mathlib.Core.Bool.{Bool, true, false, cond}
@@ -23,7 +23,7 @@ use Rattle.row.specs.declared.StepRow.the-variants.{Unread, At}
 use Rattle.row.proofs.RowNodes.{NodeBelow}
 use Rattle.step.specs.Step.{callOf, recordsBy}
 use Rattle.run_trace.specs.RunTrace.{systemOf, openings, withRow}
-use Rattle.run_trace.specs.Calls.{shownAfter}
+use Rattle.run_trace.specs.Calls.{showsAfter, shownAfter}
 use Rattle.run_trace.proofs.Openings.{config-at, step-leaves, open-zeroed, opened-buffer}
 use Rattle.nodes.specs.Nodes.{mostNodes, recordsSpace, recordsAt, putRecords, openedUpTo, rowRecords, rowText}
 use Rattle.nodes.proofs.Parts.{all-played, at-length, put-length, put-there, put-elsewhere}
@@ -115,9 +115,9 @@ module _ (w : Config) (few : w .n ≤ mostNodes) (list : Trace Call) (records : 
   row-prints ordinal Unread known = refl
   row-prints ordinal (At node step) known = rw (plays .same node known, config-at w node)
 
-  -- and the nodes that show a slot are the same
+  -- and as many nodes show a slot
   pub shown-same : shownCount w records ≡ shownAfter w list
-  unfolding shownCount shownAfter
+  unfolding shownCount showsAfter shownAfter
   shown-same =
       fun-ext
       (λ sender. fun-ext

@@ -1,12 +1,12 @@
 -- The end of the input, and the run program as it is given its input in pieces. That pieces and end together print what specs/Run.antt says of the whole
--- input are the theorems `Streams` and `InPieces`, proved in proofs/Streams.antt: a reader who believes specs/Run.antt need hold nothing here beside
--- document 01.
+-- input are the theorems `Streams` and `InPieces`, proved in proofs/Streams.antt. So a reader who believes specs/Run.antt need hold beside document 01 no more of
+-- what stands here than what `InPieces` is about: `printedInPieces` and `usedInput`.
 -- Assumes nothing.
 use mathlib.Core.Path.{_≡_}
 use mathlib.Core.Bool.{cond}
 use mathlib.Core.List.{List, [], _∷_, _++_}
-use Prim.Native.Nat.{ℕ, _*_, _^_, _<_}
-use lib.ListN.{length}
+use Prim.Native.Nat.{ℕ, _*_, _^_, _<_, min}
+use lib.ListN.{length, take}
 use Rattle.text.specs.Text.{empty}
 use Rattle.step.specs.Step.{rowSpace}
 use Rattle.nodes.specs.Nodes.{recordsSpace}
@@ -16,7 +16,7 @@ use Rattle.stages.specs.declared.Stage.{Stage}
 use Rattle.stages.specs.declared.Stage.the-variants.{TableNames, TableRow, StepNames, Steps, NoTable}
 use Rattle.stages.specs.Stages.{startState}
 use Rattle.lines.specs.declared.Run.{Run}
-use Rattle.lines.specs.Bytes.{Progress, afterLineEnd, lineEndText, afterBytes, bytesText, progress}
+use Rattle.lines.specs.Bytes.{Progress, afterLineEnd, lineEndText, afterBytes, bytesText, progress, keptRun, keptLine}
 use Rattle.run.specs.Run.{noTable, printed}
 
 -- at the start, with a buffer of any content
@@ -57,28 +57,41 @@ mostChunk = 16384
 abbrev pub outSpace : ℕ
 outSpace = rowSpace * mostChunk
 
--- What is printed for an input that comes in pieces is what document 01 says of the whole of it. The ordinal of a row is counted in 64 bits.
+-- of a piece, whatever its length, so many bytes are used, from its start on
+abbrev pub usedOfPiece : (piece : List ℕ) → ℕ
+usedOfPiece piece = min (length piece) mostChunk
+
+-- what is known after them, and what is printed for them
+module _ (run : Run) (line records piece : List ℕ) where
+  unfoldable pub afterPiece : Progress
+  afterPiece = afterBytes (progress run line records) (take (usedOfPiece piece) piece)
+
+  unfoldable pub pieceText : List ℕ
+  pieceText = bytesText (progress run line records) (take (usedOfPiece piece) piece)
+
+-- ---- what is printed is what document 01 says
+
+-- What is printed for an input that comes byte by byte is what document 01 says of the whole of it. The ordinal of a row is counted in 64 bits.
 abbrev pub Streams : Type 0
 Streams =
     (records input : List ℕ) → length records ≡ recordsSpace → length input < 2 ^ 64
     → bytesText (fresh records) input ++ finishedText (afterBytes (fresh records) input) ≡ printed input
 
--- the pieces of an input, one after the other
-unfoldable pub afterPieces : (p : Progress) (pieces : List (List ℕ)) → Progress
-afterPieces p [] = p
-afterPieces p (piece ∷ others) = afterPieces (afterBytes p piece) others
+-- What a caller prints who gives `feed` pieces of any length, one after the other, each with the run, the line and the records that the call before left,
+-- and then calls `finish` with them.
+unfoldable pub printedInPieces : (run : Run) (line records : List ℕ) (pieces : List (List ℕ)) → List ℕ
+printedInPieces run line records [] = finishedText (progress run line records)
+printedInPieces run line records (piece ∷ others) =
+    pieceText run line records piece
+    ++ printedInPieces (keptRun (afterPiece run line records piece)) (keptLine (afterPiece run line records piece)) (afterPiece run line records piece .records) others
 
-unfoldable pub piecesText : (p : Progress) (pieces : List (List ℕ)) → List ℕ
-piecesText p [] = []
-piecesText p (piece ∷ others) = bytesText p piece ++ piecesText (afterBytes p piece) others
+-- the bytes that were used of the pieces, one after the other: the input, if each piece goes on after the bytes that were used of the one before
+unfoldable pub usedInput : (pieces : List (List ℕ)) → List ℕ
+usedInput [] = []
+usedInput (piece ∷ others) = take (usedOfPiece piece) piece ++ usedInput others
 
-unfoldable pub joined : (pieces : List (List ℕ)) → List ℕ
-joined [] = []
-joined (piece ∷ others) = piece ++ joined others
-
--- So what the program prints, piece by piece from `start` on and at the end, is what document 01 says of its input. A piece has at most `mostChunk` bytes
--- for `feed`; here it has any length.
+-- So what the program prints from `start` on, whatever pieces its input comes in, is what document 01 says of the whole of it.
 abbrev pub InPieces : Type 0
 InPieces =
-    (line records : List ℕ) (pieces : List (List ℕ)) → length records ≡ recordsSpace → length (joined pieces) < 2 ^ 64
-    → piecesText (progress startRun line records) pieces ++ finishedText (afterPieces (progress startRun line records) pieces) ≡ printed (joined pieces)
+    (line records : List ℕ) (pieces : List (List ℕ)) → length records ≡ recordsSpace → length (usedInput pieces) < 2 ^ 64
+    → printedInPieces startRun line records pieces ≡ printed (usedInput pieces)

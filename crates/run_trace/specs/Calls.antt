@@ -1,12 +1,11 @@
--- A run as a list of demand 3's calls. Each step is the call of the list at its node: it leaves the records, and its answer says, what demand 3 reads
--- off that call. And the list is one of demand 3's: each node opens the day first and once only. So what demand 3 says of lists of calls it says of
--- runs. These laws are proved in proofs/Calls.antt, the last in proofs/Shown.antt.
+-- A run as a list of demand 3's calls. Each step is the call of the list at its node: it leaves the records that demand 3 has that call leave, and its answer says
+-- whether it announces, delivers or sends as demand 3 has it. Each node opens the day first and once only, and so the
+-- calls of a run at the correct nodes are a list of demand 3, where no signature of a correct node is forged. These laws are proved in proofs/Calls.antt, the last in proofs/Shown.antt.
 -- Assumes nothing.
 use mathlib.Core.Path.{_≡_}
 use mathlib.Core.Bool.{Bool, true, false, not, cond, _&&_}
 use mathlib.Core.List.{List, _∷_}
 use Prim.Native.Nat.{ℕ, _^_, _<_}
-use lib.Dec.{eqb}
 use lib.ListN.{length}
 use Rattle.octets.specs.Octets.{same}
 use Rattle.signers.specs.Sets.{NodeSet, count}
@@ -109,9 +108,9 @@ CallsAtSame =
 
 module _ (s : System) where
   -- "each unit called opens the day first, and once only", as `Lawful` of demand 3 has it
-  abbrev pub OpensFirst : Trace Call → Type 0
-  OpensFirst start = Unit
-  OpensFirst (earlier then u calls call) = OpensFirst earlier × (opens s u call (buffer s earlier u) ≡ not (called s earlier u))
+  abbrev pub OpensFirstAndOnce : Trace Call → Type 0
+  OpensFirstAndOnce start = Unit
+  OpensFirstAndOnce (earlier then u calls call) = OpensFirstAndOnce earlier × (opens s u call (buffer s earlier u) ≡ not (called s earlier u))
 
   -- what faulty nodes cannot do, at each call
   abbrev pub AllUnforged : Trace Call → Type 0
@@ -122,7 +121,7 @@ module _ (s : System) where
 abbrev pub RunOpensFirst : Type 0
 RunOpensFirst =
     (s : System) (rows : List (List ℕ))
-    → OpensFirst s (callsOf (s .shared) rows) × ((set : NodeSet) → OpensFirst s (callsAt set (callsOf (s .shared) rows)))
+    → OpensFirstAndOnce s (callsOf (s .shared) rows) × ((set : NodeSet) → OpensFirstAndOnce s (callsAt set (callsOf (s .shared) rows)))
 
 -- so the calls of a run at the correct nodes are lawful where no signature of a correct node is forged
 abbrev pub RunLawful : Type 0
@@ -132,13 +131,20 @@ RunLawful =
 
 -- ---- what the last rows count
 
--- how many nodes show a payload in the slot after a list of calls
+-- the node shows a payload in the slot after a list of calls, and how many nodes do
+unfoldable pub showsAfter : (config : Config) (list : Trace Call) (sender seq node : ℕ) → Bool
+showsAfter config list sender seq node =
+    after (shown.delivered (configAt (systemOf config) node) (slotOfDay config sender seq) (buffer (systemOf config) list node)) (λ place. true) false
+
 unfoldable pub shownAfter : (config : Config) (list : Trace Call) (sender seq : ℕ) → ℕ
-shownAfter config list sender seq =
-    count (λ u. after (shown.delivered (configAt (systemOf config) u) (slotOfDay config sender seq) (buffer (systemOf config) list u)) (λ place. true) false) (config .n)
+shownAfter config list sender seq = count (showsAfter config list sender seq) (config .n)
 
 -- the nodes that the last rows count, answered delivered by some call of the run, are those that show a payload at its end, whoever signed what
 abbrev pub DeliveredAreShown : Type 0
 DeliveredAreShown =
     (config : Config) (rows : List (List ℕ)) → good config ≡ true → config .day < 2 ^ 32
-    → (sender seq : ℕ) → shownAfter config (callsOf config rows) sender seq ≡ deliveredCount config (callsOf config rows) sender seq
+    → (sender seq : ℕ)
+    → ((u : ℕ) → u < config .n
+    → showsAfter config (callsOf config rows) sender seq u
+    ≡ ever (systemOf config) (deliversIn (systemOf config) (slotOfDay config sender seq)) (callsOf config rows) u)
+    × (shownAfter config (callsOf config rows) sender seq ≡ deliveredCount config (callsOf config rows) sender seq)

@@ -1,6 +1,6 @@
 -- Words as sets of nodes: the members of a union and of an insertion, what it means that a word is within n, and that the count of a word's ones
 -- is the number of its members. From the definitions of specs/Signers.antt and the laws of counts, for words of any length n. Assumes nothing.
-use mathlib.Core.Bool.{Bool, true, false, not, cond, _&&_, _||_, true≢false, and-false, or-false, or-true}
+use mathlib.Core.Bool.{Bool, true, false, not, cond, _&&_, _||_, true≢false, and-false, and-true, or-false, or-true}
 use mathlib.Core.Logic.{_⊎_, inl, inr}
 use mathlib.Core.Path.{_≡_, refl, sym, ap, ap₂, _∙_}
 use Prim.Native.Nat.{ℕ, zero, suc, _+_, _*_, _/_, _%_, _^_, _-_, _≤_, _<_, zero-le, suc-le-suc}
@@ -13,7 +13,7 @@ use lib.Count.{ones-step, ones-le, leading-top}
 use lib.Dec.{ltb, leb, eqb, leb·suc-suc, eqb·suc-suc, eqb·zero-suc, eqb·suc-zero, lit<}
 use lib.Pow.{pow-pos, pow-mono, pow-lt, shr-shr, shl-exact, ones-split, ones-lt, high, le-ones, lt-of-le-ones}
 use Rattle.signers.specs.Sets.{NodeSet, indicator, count, both, either}
-use Rattle.signers.specs.Signers.{member, insert, union, size, meets, below, within}
+use Rattle.signers.specs.Signers.{member, insert, without, union, size, meets, below, within}
 use Rattle.signers.proofs.Counting.{count-same, count-mono, count-none, count-single, count-some, count-first, count-either, quorums-share-correct}
 
 -- ---- the bits of a word
@@ -144,6 +144,48 @@ union-right a b u m = member-union a b u ∙ rw m (or-true (member a u))
 -- nobody is in the empty word
 pub nobody : (u : ℕ) → member 0 u ≡ false
 nobody u = member-below 0 0 u (pow-pos 0) zero-le
+
+-- a word that has a node is no smaller than that node's bit
+member-weight : (a v : ℕ) → member a v ≡ true → 2 ^ v ≤ a
+member-weight a v m = go (leb (2 ^ v) a) refl
+  where
+    go : (b : Bool) → leb (2 ^ v) a ≡ b → 2 ^ v ≤ a
+    go true e = leb-true (2 ^ v) a e
+    go false e = absurd (true≢false (sym m ∙ member-below a v v (leb-false (2 ^ v) a e) (omega arith)))
+
+-- node 0 is in a word by its remainder
+member-zero : (a : ℕ) → member a 0 ≡ eqb (a % 2) 1
+unfolding member
+member-zero a = rw div-one
+
+-- with that bit taken off, the node is out and every other node is as it was
+bit-off : (a v u : ℕ) → member a v ≡ true → member (a - 2 ^ v) u ≡ (member a u && not (eqb u v))
+bit-off a zero zero m =
+    let odd : a % 2 ≡ 1 = lowest-member a ∙ ap indicator m in
+    let even : (a - 1) % 2 ≡ 0 = omega arith in
+    member-zero (a - 1) ∙ rw even (sym (and-false (member a 0)))
+bit-off a zero (suc u) m =
+    let odd : a % 2 ≡ 1 = lowest-member a ∙ ap indicator m in
+    let half : (a - 1) / 2 ≡ a / 2 = omega arith in
+    sym (member-half (a - 1) u) ∙ rw (half, member-half a u, eqb·suc-zero u) (sym (and-true (member a (suc u))))
+bit-off a (suc v) zero m =
+    let weight = member-weight a (suc v) m in
+    let same : (a - 2 ^ suc v) % 2 ≡ a % 2 = omega (arith, pow-suc 2 v) in
+    member-zero (a - 2 ^ suc v) ∙ rw (same, ← member-zero a, eqb·zero-suc v) (sym (and-true (member a 0)))
+bit-off a (suc v) (suc u) m =
+    let weight = member-weight a (suc v) m in
+    let half : (a - 2 ^ suc v) / 2 ≡ a / 2 - 2 ^ v = omega (arith, pow-suc 2 v) in
+    sym (member-half (a - 2 ^ suc v) u) ∙ rw (half, bit-off (a / 2) v u (member-half a v ∙ m), member-half a u, eqb·suc-suc)
+
+-- a word without a node has every other node that it had
+pub member-without : (a v u : ℕ) → member (without a v) u ≡ (member a u && not (eqb u v))
+unfolding without
+member-without a v u = go (member a v) refl (eqb u v) refl
+  where
+    go : (m : Bool) → member a v ≡ m → (b : Bool) → eqb u v ≡ b → member (cond m (a - 2 ^ v) a) u ≡ (member a u && not (eqb u v))
+    go true m b e = bit-off a v u m
+    go false m true e = rw (eqb-true u v e, m)
+    go false m false e = rw e (sym (and-true (member a u)))
 
 -- ---- words within n
 

@@ -14,6 +14,10 @@ member set node = eqb (set / 2 ^ node % 2) 1
 unfoldable pub insert : ℕ → ℕ → ℕ
 insert set node = cond (ltb node 64) (bitOr set (2 ^ node)) set
 
+-- the word without that bit
+unfoldable pub without : ℕ → ℕ → ℕ
+without set node = cond (member set node) (set - 2 ^ node) set
+
 -- the bits of either word
 abbrev pub union : ℕ → ℕ → ℕ
 union a b = bitOr a b

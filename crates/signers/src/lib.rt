@@ -46,7 +46,7 @@ pub fn meets(a: u64, b: u64) -> bool
     a & b != 0
 }
 
-// The nodes below `n`. The tests are such that none is left where n is known to be 1 to 64.
+// The nodes below `n`. Where the compiler knows that n is 1 to 64, it leaves out both tests.
 pub fn below(n: u8) -> u64
     ensures { λ r. ⌜ r ≡ allBelow n ⌝ }
 {

@@ -58,8 +58,8 @@ pub fn start() -> State
     }
 }
 
-// Does what a line that has ended asks for, and prints over `out` from index `at` on. If `out` has no room
-// there for any row, nothing is printed, and all else is done.
+// Does what a line that has ended asks for, and prints over `out` from index `at` on. If `out` has fewer than
+// ROW_SPACE bytes there, nothing is printed, and all else is done.
 pub fn end_line(
     state: State,
     line: &[u8],
@@ -182,7 +182,7 @@ fn end_step_names(
     }
 }
 
-// Opens the day at every node and prints the names line above the step rows.
+// Opens the day at every node that is played, and prints the names line above the step rows.
 fn begin(state: State, records: &mut [u8; RECORDS_SPACE], at: usize, out: &mut [u8]) -> Ended
     ensures { λ r. ⌜ r .state ≡ afterStepNames state ⌝ }
     ensures { λ _. ⌜ now (records .exit) ≡ openedRecords (state .config) (now (records .entry)) ⌝ }
@@ -214,7 +214,7 @@ fn print_names(at: usize, out: &mut [u8]) -> usize
     text::put(b"line act unit answer reason count\n", at, out)
 }
 
-// A step row. One for which nothing is printed was not read, or there is no room for any row.
+// A step row. One for which nothing is printed was not read, or `out` has fewer than ROW_SPACE bytes there.
 fn end_step_row(
     state: State,
     line: &[u8],

@@ -106,7 +106,7 @@ stepText ordinal node act reply = decimal ordinal ++ (act ++ (decimal node ++ (a
 unfoldable pub unreadText : ℕ → List ℕ
 unreadText ordinal = decimal ordinal ++ ascii " - - unread 0 0\n"
 
--- A row is printed over a buffer from index `at` on if the buffer has room for any row there, and else not at all.
+-- A row is printed over a buffer from index `at` on if the buffer has so many bytes there, room for any row, and else not at all, even if this one fits.
 abbrev pub rowSpace : ℕ
 rowSpace = 80
 

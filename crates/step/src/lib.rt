@@ -64,8 +64,8 @@ pub fn call(config: Config, step: Step, records: &mut [u8], out: &mut [u8]) -> A
     }
 }
 
-// Prints a step's row over `out` from index `at` on, and answers where it ends. A buffer that has no room
-// for any row there stays as it is, and the answer is `at`.
+// Prints a step's row over `out` from index `at` on, and answers where it ends. A buffer that has fewer than
+// ROW_SPACE bytes there stays as it is, whatever the row, and the answer is `at`.
 pub fn print(ordinal: u64, node: u8, answer: Answer, at: usize, out: &mut [u8]) -> usize
     ensures { λ r. ⌜ r ≡ printedEnd at (stepText ordinal node (actBy answer) (answered answer)) (now (out .entry)) ⌝ }
     ensures { λ _. ⌜ now (out .exit) ≡ printedOver at (stepText ordinal node (actBy answer) (answered answer)) (now (out .entry)) ⌝ }

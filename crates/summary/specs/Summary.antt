@@ -61,7 +61,7 @@ slotSpace = 84
 abbrev pub summarySpace : ℕ
 summarySpace = 28 + slotSpace * slots * 256
 
--- The text is printed over a buffer from index `at` on if the buffer has room there for any rows, and else not at all.
+-- The text is printed over a buffer from index `at` on if the buffer has so many bytes there, and else not at all, even if this text fits.
 unfoldable pub summaryFits : (at : ℕ) (out : List ℕ) → Bool
 summaryFits at out = leb (at + summarySpace) (length out)
 

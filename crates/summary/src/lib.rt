@@ -30,7 +30,7 @@ pub fn percent(n: u8, delivered: u8) -> u64
 }
 
 // Prints the names line and the rows over `out` from index `at` on, and answers where they end. A buffer
-// that has no room there for any rows stays as it is, and the answer is `at`.
+// that has fewer than SPACE bytes there stays as it is, whatever the rows, and the answer is `at`.
 pub fn print(config: Config, records: &[u8; RECORDS_SPACE], at: usize, out: &mut [u8]) -> usize
     ensures { λ r. ⌜ r ≡ summaryEnd at (summaryText config (shownCount config (now (records .entry)))) (now (out .entry)) ⌝ }
     ensures { λ _. ⌜ now (out .exit) ≡ summaryOver at (summaryText config (shownCount config (now (records .entry)))) (now (out .entry)) ⌝ }

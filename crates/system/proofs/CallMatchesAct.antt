@@ -1,17 +1,17 @@
 -- One call at a node, beside its act in one slot: the slot's bytes are the record's, and the call does in the slot what the act does. From the
 -- cases of proofs/CallInSlot.antt, and the laws of records, bundles and calls.
 -- Assumes nothing.
-use mathlib.Core.Path.{_≡_, refl, sym, ap, _∙_, subst}
+use mathlib.Core.Path.{_≡_, refl, sym, ap, ap₂, _∙_, subst}
 use mathlib.Core.Option.{Option, none, some}
 use mathlib.Core.Bool.{Bool, true, false, cond, not, _&&_, true≢false, and-false, and-true, and-eq-true-iff}
 use mathlib.Core.List.{List, [], _∷_}
 use Prim.Native.Nat.{ℕ, _≤_, _<_, _^_}
-use lib.Dec.{eqb}
+use lib.Dec.{eqb, leb}
 use lib.ListN.{length, replicate, length-replicate}
 use borrow.Author.Tests.{eq-eqb, eqb-false}
 use Rattle.octets.specs.Octets.{same, blank}
 use Rattle.octets.proofs.Same.{same-says, same-self}
-use Rattle.signers.specs.Signers.{insert}
+use Rattle.signers.specs.Signers.{insert, size}
 use Rattle.refusal.specs.Outcome.{Outcome, refused, done, _if_, after}
 use Rattle.refusal.proofs.Reasons.{clear-done, refused-not-done}
 use Rattle.payload.specs.Payload.{payloadSize}
@@ -24,6 +24,7 @@ use Rattle.protocol.specs.Update as answers
 use Rattle.protocol.specs.Update.{Record, Empty, Update, signersOf, payloadOf, isEmpty, announced, announcedBy, update}
 use Rattle.protocol.specs.OneSlot as one-slot
 use Rattle.protocol.specs.OneSlot.{Act}
+use Rattle.protocol.specs.Differences as differences
 use Rattle.protocol.proofs.WellFormed.{Bundled, WellFormed, well-formed-bundled, announced-well-formed, update-payload, update-well-formed}
 use Rattle.record.specs.Record.{encoding, wellFormed}
 use Rattle.record.proofs.Encoding.{encoding-length, empty-encoding, blank-encoding, encoding-well-formed, decoded-encoding}
@@ -36,6 +37,7 @@ use Rattle.calls.proofs.LowestFree.{Announced, broadcast-done}
 use Rattle.calls.proofs.ReceiveFacts.{Read, read-says, receive-updates, receive-done}
 use Rattle.calls.proofs.Refusals.{receive-unread}
 use Rattle.system.specs.Demand3.{Call, Open, Broadcast, Receive, System, configAt, inSlot, recordsAfter, outAfter, announcesIn, announces, deliversIn, delivers, sends, sendsIn, reaches}
+use Rattle.system.specs.Differences.{deliversAtOnce}
 use Rattle.system.proofs.CallInSlot.{CallCase, opening, broadcast-here, broadcast-elsewhere, broadcast-refused, received-here, received-elsewhere, received-no-room, received-unread}
 use Rattle.system.proofs.SlotRanges.{read-range, broadcast-range}
 use Rattle.system.proofs.CommonConfig.{quorumOf, config-good, config-quorum, InRange, range-at, slots-apart, slotHeader, slotBundle, bundle-in-slot, named-in-slot, bundle-reads}
@@ -68,6 +70,7 @@ pub record NoActCall (s : System) (slot : Slot) (u : ℕ) (call : Call) (records
 pub record ActCall (s : System) (slot : Slot) (u : ℕ) (call : Call) (records : List ℕ) (r : Record) (a : Act) : Type 0 where
   pub as-delivered : deliversIn s slot u call records ≡ one-slot.delivers (quorumOf s) u a r
   pub as-delivered-this : (payload : List ℕ) → delivers s slot payload u call records ≡ one-slot.deliversThis (quorumOf s) payload u a r
+  pub as-delivered-at-once : (payload : List ℕ) → deliversAtOnce s slot payload u call records ≡ differences.deliversAtOnce (quorumOf s) payload u a r
   pub as-sent : sends s u call records ≡ one-slot.sends (quorumOf s) u a r
   pub as-written : (result : Update) → one-slot.outcome (quorumOf s) u a r ≡ done result → answers.sends (result .answer) ≡ true
       → (outAfter s u call records ≡ slotBundle slot (signersOf (result .newRecord)) (payloadOf (result .newRecord)))
@@ -202,12 +205,14 @@ module _ (s : System) (g : good (configAt s 0) ≡ true) (dated : s .shared .day
   broadcast-own : (payload out records : List ℕ) (r : Record) (seq : ℕ) → broadcast (configAt s u) payload records out ≡ done seq
       → HoldsRecord s (ownSlot (configAt s u) seq) u records r
       → ActCall s (ownSlot (configAt s u) seq) u (Broadcast payload out) records r (one-slot.Broadcast payload)
-  unfolding deliversIn delivers sends outAfter announcesIn announces reaches recordsAfter broadcastRecords broadcastOut slotOfDay configAt withOwn one-slot.delivers one-slot.deliversThis
+  unfolding deliversIn delivers deliversAtOnce sends outAfter announcesIn announces reaches recordsAfter broadcastRecords broadcastOut slotOfDay configAt withOwn one-slot.delivers one-slot.deliversThis
+      differences.deliversAtOnce differences.bringsQuorum
       one-slot.sends one-slot.broadcasts one-slot.broadcastsThis one-slot.recordAfter
   broadcast-own payload out records r seq e holds =
       record {
         as-delivered = rw outcome;
         as-delivered-this = λ first. rw outcome;
+        as-delivered-at-once = λ first. rw outcome;
         as-sent = rw (e, outcome);
         as-written = λ result f x. written result f;
         as-announced = rw (e, empty, same-slot-self (ownSlot (configAt s u) seq));
@@ -408,15 +413,21 @@ module _ (s : System) (g : good (configAt s 0) ≡ true) (dated : s .shared .day
           unfolding deliversIn headerIn
           delivered-here = rw receive-here (and-slot receive-outcome (inSlot slot bundle) (named-in-slot slot bundle named-here))
 
+          delivered-as : (payload : List ℕ) → delivers s slot payload u (Receive bundle out) records
+              ≡ one-slot.deliversThis (quorumOf s) payload u (one-slot.Receive (h .signers) (payloadPart (configAt s u) bundle)) r
+          unfolding delivers one-slot.deliversThis
+          delivered-as payload = ap (λ (b : Bool). b && same (payloadIn bundle) payload) delivered-here ∙ delivered-this payload receive-outcome refl
+
           here-match : ActCall s slot u (Receive bundle out) records r (one-slot.Receive (h .signers) (payloadPart (configAt s u) bundle))
-          unfolding delivers sends outAfter announcesIn announces recordsAfter receiveRecords one-slot.delivers one-slot.deliversThis one-slot.sends one-slot.broadcasts
+          unfolding deliversAtOnce sends outAfter announcesIn announces recordsAfter receiveRecords one-slot.delivers one-slot.sends one-slot.broadcasts differences.deliversAtOnce differences.bringsQuorum
               one-slot.broadcastsThis one-slot.receives one-slot.recordAfter
           here-match =
               record {
                 as-delivered = delivered-here;
-                as-delivered-this = λ payload.
-                    ap (λ (b : Bool). b && same (payloadIn bundle) payload) delivered-here
-                    ∙ delivered-this payload receive-outcome refl;
+                as-delivered-this = delivered-as;
+                as-delivered-at-once = λ payload.
+                    ap₂ (λ (b c : Bool). b && c) (delivered-as payload)
+                    (ap₂ (λ (q signers : ℕ). leb q (size signers)) (config-quorum s u g l) (ap (λ (k : Header). k .signers) (accepted .fields)));
                 as-sent = rw receive-here;
                 as-written = λ result f x. result-written result f x;
                 as-announced = refl;

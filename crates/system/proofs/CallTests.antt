@@ -1,7 +1,7 @@
 -- The tests of specs/Demand3.antt on a call, beside the tests on the act that the call matches: where one passes the other does. From
 -- proofs/CallMatchesAct.antt, and the bundles that reading gives back.
 -- Assumes nothing.
-use mathlib.Core.Path.{_≡_, refl, sym, ap, ap₂, _∙_, subst₂}
+use mathlib.Core.Path.{_≡_, refl, sym, ap, ap₂, _∙_, subst, subst₂}
 use mathlib.Core.Option.{Option, none, some}
 use mathlib.Core.Bool.{Bool, true, false, _&&_, true≢false, and-eq-true-iff}
 use mathlib.Core.List.{List}
@@ -20,14 +20,16 @@ use Rattle.protocol.specs.Update as answers
 use Rattle.protocol.specs.Update.{Record, Empty, Update, signersOf, payloadOf}
 use Rattle.protocol.specs.OneSlot as one-slot
 use Rattle.protocol.specs.OneSlot.{Act}
+use Rattle.protocol.specs.Differences as differences
 use Rattle.protocol.proofs.WellFormed.{Bundled}
 use Rattle.calls.proofs.ReceiveFacts.{read-says}
-use Rattle.config.proofs.Laws.{good-says}
+use Rattle.config.proofs.Laws.{good-says, same-slot-self}
 use Rattle.system.specs.Demand3.{Call, Open, Broadcast, Receive, System, configAt, inSlot, recordsAfter, outAfter, announcesIn, announces, deliversIn, delivers, sends, sendsThis, sendsIn, signs, reaches}
+use Rattle.system.specs.Differences.{deliversAtOnce}
 use Rattle.system.proofs.Projection as projection
 use Rattle.system.proofs.CallInSlot.{actIn}
-use Rattle.system.proofs.CommonConfig.{quorumOf, InRange, slotHeader, slotBundle, bundle-reads}
-use Rattle.system.proofs.CallMatchesAct.{MatchesAct}
+use Rattle.system.proofs.CommonConfig.{quorumOf, InRange, slotHeader, slotBundle, bundle-in-slot, bundle-reads}
+use Rattle.system.proofs.CallMatchesAct.{ActCall, MatchesAct}
 
 -- a test on the act that a call comes to, at its node
 abbrev pub actPasses : (s : System) (slot : Slot) (test : (node : ℕ) (act : Act) (r : Record) → Bool) (node : ℕ) (act : Option Act) (r : Record) → Bool
@@ -156,18 +158,46 @@ module _ (s : System) (slot : Slot) (u : ℕ) (call : Call) (records : List ℕ)
         let accepted = read-says (configAt s 0) (slotBundle slot signers payload) (slotHeader slot signers) (back .0) in
         (ap (λ (k : Header). k .signers) (accepted .fields), sym (accepted .payload) ∙ back .1)
 
+    -- where an act sends, its call signs what the act's update has
+    signs-of : (a : Act) → ActCall s slot u call records r a → (payload : List ℕ) (result : Update) → one-slot.outcome (quorumOf s) u a r ≡ done result
+        → answers.sends (result .answer) ≡ true
+        → signs s slot payload u call records ≡ (same (payloadOf (result .newRecord)) payload && member (signersOf (result .newRecord)) u)
+    unfolding signs sendsIn one-slot.sends
+    signs-of a h payload result f x =
+        let (written, bundled) = h .as-written result f x in
+        let (signers-back, payload-back) = bundle-fields (signersOf (result .newRecord)) (payloadOf (result .newRecord)) bundled in
+        let dated-there = subst (λ (d : ℕ). d < 2 ^ 32) (sym (range .today)) dated in
+        let named : inSlot slot (outAfter s u call records) ≡ true =
+        ap (inSlot slot) written ∙ bundle-in-slot slot (slotHeader slot (signersOf (result .newRecord))) (payloadOf (result .newRecord)) dated-there ∙ same-slot-self slot in
+        let sent : sends s u call records ≡ true = h .as-sent ∙ rw f x in
+        let signers-same : headerIn (outAfter s u call records) .signers ≡ signersOf (result .newRecord) = ap (λ (b : List ℕ). headerIn b .signers) written ∙ signers-back in
+        let payload-same : payloadIn (outAfter s u call records) ≡ payloadOf (result .newRecord) = ap (λ (b : List ℕ). payloadIn b) written ∙ payload-back in
+        rw (sent, named, signers-same, payload-same)
+
     pub signs-forth : (payload : List ℕ) (m : Option Act) → MatchesAct s slot u call records r m → signs s slot payload u call records ≡ true
         → actPasses s slot (one-slot.signs (quorumOf s) payload) u m r ≡ true
     unfolding signs one-slot.signs
     signs-forth payload none h e = not-both (and-eq-true-iff (sendsIn s slot u call records) _ .0 e .0) (h .unsent)
     signs-forth payload (some a) h e =
-        let b = and-eq-true-iff (sendsIn s slot u call records)
-        (same (payloadIn (outAfter s u call records)) payload && member (headerIn (outAfter s u call records) .signers) u) .0 e in
-        let t = sends-result (quorumOf s) u a r (sends-forth (some a) h (b .0)) in
-        let w = h .as-written (t .0) (t .1) (t .2) in
-        let f = bundle-fields (signersOf (t .0 .newRecord)) (payloadOf (t .0 .newRecord)) (w .1) in
-        let signers-same : headerIn (outAfter s u call records) .signers ≡ signersOf (t .0 .newRecord) = ap (λ (x : List ℕ). headerIn x .signers) (w .0) ∙ f .0 in
-        let payload-same : payloadIn (outAfter s u call records) ≡ payloadOf (t .0 .newRecord) = ap (λ (x : List ℕ). payloadIn x) (w .0) ∙ f .1 in
-        rw (t .1)
-        (and-eq-true-iff (answers.sends (t .0 .answer)) (same (payloadOf (t .0 .newRecord)) payload && member (signersOf (t .0 .newRecord)) u) .1
-        (t .2, subst₂ (λ (x : ℕ) (p : List ℕ). (same p payload && member x u) ≡ true) signers-same payload-same (b .1)))
+        let (result, f, x) = sends-result (quorumOf s) u a r (sends-forth (some a) h (and-eq-true-iff (sendsIn s slot u call records) _ .0 e .0)) in
+        rw (f, x) (sym (signs-of a h payload result f x) ∙ e)
+
+    pub signs-back : (payload : List ℕ) (m : Option Act) → MatchesAct s slot u call records r m
+        → actPasses s slot (one-slot.signs (quorumOf s) payload) u m r ≡ true → signs s slot payload u call records ≡ true
+    unfolding one-slot.signs
+    signs-back payload none h e = absurd (true≢false (sym e))
+    signs-back payload (some a) h e = go (one-slot.outcome (quorumOf s) u a r) refl e
+      where
+        go : (o : Outcome Update) → one-slot.outcome (quorumOf s) u a r ≡ o
+            → after o (λ result. answers.sends (result .answer) && (same (payloadOf (result .newRecord)) payload && member (signersOf (result .newRecord)) u)) false ≡ true
+            → signs s slot payload u call records ≡ true
+        go (refused number) f x = absurd (true≢false (sym x))
+        go (done result) f x =
+            let (sent, this) = and-eq-true-iff (answers.sends (result .answer)) _ .0 x in
+            signs-of a h payload result f sent ∙ this
+
+  -- delivering by a bundle that has a quorum by itself
+  pub at-once-back : (payload : List ℕ) (m : Option Act) → MatchesAct s slot u call records r m
+      → actPasses s slot (differences.deliversAtOnce (quorumOf s) payload) u m r ≡ true → deliversAtOnce s slot payload u call records ≡ true
+  at-once-back payload none h e = absurd (true≢false (sym e))
+  at-once-back payload (some a) h e = h .as-delivered-at-once payload ∙ e

@@ -54,13 +54,23 @@ module _ (s : System) where
   signed-test earlier payload h v =
       implies (correct s v) (implies (member (h .signers) v) (ever s (signs s (slotOf h) payload) earlier v))
 
-  -- what `Unforged` asks, of a bundle that was not given before; and what `Lawful` asks
+  -- what `Unforged` asks of a bundle
+  unfoldable pub unforged-now : (earlier : Trace Call) (node : ℕ) (bundle : List ℕ) → Bool
+  unforged-now earlier u bundle =
+      after (read (configAt s u) bundle) (λ h. each (signed-test earlier (payloadPart (configAt s u) bundle) h) (s .shared .n)) true
+
+  pub unforged-now-says : (earlier : Trace Call) (u : ℕ) (bundle out : List ℕ) → unforged-now earlier u bundle ≡ true → Unforged s earlier u (Receive bundle out)
+  unfolding unforged-now correct
+  unforged-now-says earlier u bundle out passed header accepted v fine bit =
+      let all = after-says (read (configAt s u) bundle) (λ h. each (signed-test earlier (payloadPart (configAt s u) bundle) h) (s .shared .n)) header passed accepted in
+      let below = ltb-true v (s .shared .n) (and-eq-true-iff _ _ .0 fine .0) in
+      implies-says _ _ (implies-says _ _ (each-says _ (s .shared .n) v all below) fine) bit
+
+  -- it has to be computed only of one that was not given before; and what `Lawful` asks
   unfoldable pub unforged-test : (earlier : Trace Call) (node : ℕ) (call : Call) → Bool
   unforged-test earlier u Open = true
   unforged-test earlier u (Broadcast given out) = true
-  unforged-test earlier u (Receive bundle out) =
-      given-before earlier bundle
-      || after (read (configAt s u) bundle) (λ h. each (signed-test earlier (payloadPart (configAt s u) bundle) h) (s .shared .n)) true
+  unforged-test earlier u (Receive bundle out) = given-before earlier bundle || unforged-now earlier u bundle
 
   unfoldable pub lawful-test : (list : Trace Call) → Bool
   lawful-test start = true
@@ -102,20 +112,14 @@ module _ (s : System) where
   -- a call that passes is unforged, and a list that passes is lawful
   unforged-says : (earlier : Trace Call) (u : ℕ) (call : Call) → Lawful s earlier → correct s u ≡ true → unforged-test earlier u call ≡ true
       → Unforged s earlier u call
-  unfolding unforged-test correct
+  unfolding unforged-test
   unforged-says earlier u Open lawful x e = tt
   unforged-says earlier u (Broadcast given out) lawful x e = tt
   unforged-says earlier u (Receive bundle out) lawful x e = go (given-before earlier bundle) refl e
     where
-      test : Header → Bool
-      test h = each (signed-test earlier (payloadPart (configAt s u) bundle) h) (s .shared .n)
-
-      go : (b : Bool) → given-before earlier bundle ≡ b → (b || after (read (configAt s u) bundle) test true) ≡ true → Unforged s earlier u (Receive bundle out)
+      go : (b : Bool) → given-before earlier bundle ≡ b → (b || unforged-now earlier u bundle) ≡ true → Unforged s earlier u (Receive bundle out)
       go true h either = given-before-says earlier u bundle out lawful x h
-      go false h passed = λ header accepted v fine bit.
-          let all = after-says (read (configAt s u) bundle) test header passed accepted in
-          let below = ltb-true v (s .shared .n) (and-eq-true-iff _ _ .0 fine .0) in
-          implies-says _ _ (implies-says _ _ (each-says _ (s .shared .n) v all below) fine) bit
+      go false h passed = unforged-now-says earlier u bundle out passed
 
   pub lawful-says : (list : Trace Call) → lawful-test list ≡ true → Lawful s list
   unfolding lawful-test

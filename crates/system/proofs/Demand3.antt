@@ -1,12 +1,12 @@
--- Demand 3, from the theorem on values: the claims on a list of calls are those on its acts, slot by slot. In a slot that is out of range no call
+-- Demand 3, slot by slot and as it stands, from the theorem on values: the claims on a list of calls are those on its acts, slot by slot. In a slot that is out of range no call
 -- delivers, sends or announces.
 -- Assumes nothing.
-use mathlib.Core.Path.{_≡_, refl, ap}
+use mathlib.Core.Path.{_≡_, refl, sym, ap, _∙_, subst}
 use mathlib.Core.Logic.{_⊎_, inl, inr}
 use mathlib.Core.Bool.{Bool, true, false, not, _&&_, and-eq-true-iff}
 use mathlib.Core.List.{List}
 use mathlib.Core.Option.{Option}
-use Prim.Native.Nat.{ℕ, _+_, _≤_, zero-le}
+use Prim.Native.Nat.{ℕ, _+_, _^_, _≤_, _<_, zero-le}
 use native.Mathlib.Nat.{le-trans}
 use native.Mathlib.Omega.{arith}
 use lib.Dec.{ltb}
@@ -15,21 +15,24 @@ use Rattle.signers.specs.Sets.{NodeSet, count, both}
 use Rattle.signers.proofs.Counting.{count-same, count-mono, count-rest}
 use Rattle.config.specs.declared.Slot.{Slot}
 use Rattle.config.specs.Config.{withOwn}
-use Rattle.config.proofs.Laws.{good-says, quorum-intersects, quorum-reachable}
+use Rattle.config.proofs.Laws.{good-says, same-slot-self, quorum-intersects, quorum-reachable}
 use Rattle.protocol.specs.Update.{Record, Empty}
 use Rattle.protocol.specs.Trace.{Trace}
 use Rattle.protocol.specs.OneSlot as one-slot
 use Rattle.protocol.specs.OneSlot.{OneSlotHolds, Quorum, Act}
 use Rattle.protocol.proofs.WellFormed.{Bundled}
+use Rattle.protocol.proofs.SentSoFar.{delivers-once, sends-at-most-twice, broadcasts-once}
 use Rattle.protocol.proofs.OneSlot.{one-slot-holds}
-use Rattle.system.specs.Demand3.{Call, System, configAt, correct, correctCount, NearlyAll, recordsAfter, announcesIn, announces, deliversIn, delivers, sendsThis, sendsIn, reaches, ever, times, Assumed, Reached, Demand3}
+use Rattle.system.specs.Demand3.{Call, System, configAt, inSlot, correct, correctCount, NearlyAll, recordsAfter, announcesIn, announces, deliversIn, delivers, sendsThis, sendsIn, reaches, ever, times, Assumed, Demand3}
+use Rattle.system.specs.SlotBySlot.{ReachedIn, DeliveryIn, SlotBySlot}
 use Rattle.system.proofs.Projection.{act-says, ever-forth, ever-back, times-forth, ever-says, never-times}
 use Rattle.system.proofs.CallInSlot.{actIn}
-use Rattle.system.proofs.CommonConfig.{quorumOf, InRange, slotBundle}
+use Rattle.system.specs.Order.{Orderly, CountsInOrder}
+use Rattle.system.proofs.CommonConfig.{quorumOf, InRange, slotHeader, slotBundle, bundle-in-slot}
 use Rattle.system.proofs.CallMatchesAct.{MatchesAct}
 use Rattle.system.proofs.CallTests.{actPasses, delivers-in, delivers-any, delivers-forth, delivers-back, announces-in, announces-any, announces-forth, announces-back, reaches-forth, sends-forth, sends-back, sends-bundled}
 use Rattle.system.proofs.SlotRanges.{delivers-range, announces-range, sends-range}
-use Rattle.system.proofs.Simulation.{acts, AllMatched, Orderly, assumed-orderly, order-matched, lawful-acts}
+use Rattle.system.proofs.Simulation.{acts, AllMatched, assumed-orderly, order-matched, lawful-acts}
 
 -- ---- nearly all of the correct nodes, on calls and on values
 
@@ -113,13 +116,13 @@ module _ (s : System) (list : Trace Call) (orderly : Orderly s list) (slot : Slo
       → actPasses s slot actTest u m r ≡ true → callTest u call records ≡ true
 
   -- then the same holds of the whole list, and no more calls pass than acts
-  ever-on-acts : (callTest : (node : ℕ) (call : Call) (records : List ℕ) → Bool) (actTest : (node : ℕ) (act : Act) (r : Record) → Bool) (u : ℕ)
+  pub ever-on-acts : (callTest : (node : ℕ) (call : Call) (records : List ℕ) → Bool) (actTest : (node : ℕ) (act : Act) (r : Record) → Bool) (u : ℕ)
       → ActFollows callTest actTest u
       → ever s callTest list u ≡ true → one-slot.ever q actTest slotActs u ≡ true
   ever-on-acts callTest actTest u h =
       ever-forth (s .buffers) (recordsAfter s) (λ node. Empty) (one-slot.recordAfter q) (actIn s slot) (MatchesAct s slot) actTest u callTest h list matched
 
-  ever-on-calls : (callTest : (node : ℕ) (call : Call) (records : List ℕ) → Bool) (actTest : (node : ℕ) (act : Act) (r : Record) → Bool) (u : ℕ)
+  pub ever-on-calls : (callTest : (node : ℕ) (call : Call) (records : List ℕ) → Bool) (actTest : (node : ℕ) (act : Act) (r : Record) → Bool) (u : ℕ)
       → CallFollows callTest actTest u
       → one-slot.ever q actTest slotActs u ≡ true → ever s callTest list u ≡ true
   ever-on-calls callTest actTest u h =
@@ -139,6 +142,16 @@ module _ (s : System) (list : Trace Call) (orderly : Orderly s list) (slot : Slo
   pub delivered-back : (payload : List ℕ) (u : ℕ) → one-slot.ever q (one-slot.deliversThis q payload) slotActs u ≡ true → ever s (delivers s slot payload) list u ≡ true
   delivered-back payload u =
       ever-on-calls (delivers s slot payload) (one-slot.deliversThis q payload) u (λ call records r. delivers-back s slot u call records r payload)
+
+  -- so are the counts, which on values hold of every trace
+  delivers-once-in : (u : ℕ) → times s (deliversIn s slot) list u ≤ 1
+  delivers-once-in u = le-trans (times-on-acts (deliversIn s slot) (one-slot.delivers q) u (λ call records r. delivers-any s slot u call records r)) (delivers-once q slotActs u)
+
+  announces-once-in : (u : ℕ) → times s (announcesIn s slot) list u ≤ 1
+  announces-once-in u = le-trans (times-on-acts (announcesIn s slot) (one-slot.broadcasts q) u (λ call records r. announces-any s slot u call records r)) (broadcasts-once q slotActs u)
+
+  sends-at-most-twice-in : (u : ℕ) → times s (sendsIn s slot) list u ≤ 2
+  sends-at-most-twice-in u = le-trans (times-on-acts (sendsIn s slot) (one-slot.sends q) u (λ call records r. sends-forth s slot u call records r)) (sends-at-most-twice q slotActs u)
 
   -- what the theorem on values says of the slot
   module _ (theorem : OneSlotHolds) (assumed : Assumed s list) where
@@ -178,17 +191,8 @@ module _ (s : System) (list : Trace Call) (orderly : Orderly s list) (slot : Slo
         ever-on-calls (announces s slot payload) (one-slot.broadcastsThis q payload) (slot .sender) (λ call records r. announces-back s slot (slot .sender) call records r payload)
         (concluded-here .validity u payload hu hs (delivered-forth payload u e))
 
-    delivers-once-in : (u : ℕ) → times s (deliversIn s slot) list u ≤ 1
-    delivers-once-in u = le-trans (times-on-acts (deliversIn s slot) (one-slot.delivers q) u (λ call records r. delivers-any s slot u call records r)) (concluded-here .delivers-once u)
-
-    sends-at-most-twice-in : (u : ℕ) → times s (sendsIn s slot) list u ≤ 2
-    sends-at-most-twice-in u = le-trans (times-on-acts (sendsIn s slot) (one-slot.sends q) u (λ call records r. sends-forth s slot u call records r)) (concluded-here .sends-at-most-twice u)
-
-    announces-once-in : (u : ℕ) → times s (announcesIn s slot) list u ≤ 1
-    announces-once-in u = le-trans (times-on-acts (announcesIn s slot) (one-slot.broadcasts q) u (λ call records r. announces-any s slot u call records r)) (concluded-here .broadcasts-once u)
-
     -- a bundle that was sent on values was sent by its bytes, and by its bytes it reached whom it reached on values
-    reached-in : Reached s list → one-slot.Reached (s .shared .n) q (slot .sender) (s .faulty) (s .shared .d) slotActs
+    reached-in : ReachedIn s list slot → one-slot.Reached (s .shared .n) q (slot .sender) (s .faulty) (s .shared .d) slotActs
     unfolding correct
     reached-in reached u signers payload hu e =
         let b : Bundled (s .shared .n) (slot .sender) signers payload =
@@ -198,13 +202,15 @@ module _ (s : System) (list : Trace Call) (orderly : Orderly s list) (slot : Slo
         (wider-nearly-all s (ever s (reaches s (slotBundle slot signers payload)) list) (one-slot.ever q (one-slot.receives q signers payload) slotActs)
         (λ v hv. ever-on-acts (reaches s (slotBundle slot signers payload)) (one-slot.receives q signers payload) v
         (λ call records r. reaches-forth s slot v call records r signers payload b))
-        (reached u (slotBundle slot signers payload) hu
+        (reached u (slotBundle slot signers payload) hu named
         (ever-on-calls (sendsThis s (slotBundle slot signers payload)) (one-slot.sendsThis q signers payload) u
         (λ call records r. sends-back s slot u call records r signers payload) e)))
+      where
+        named : inSlot slot (slotBundle slot signers payload) ≡ true
+        named =
+            bundle-in-slot slot (slotHeader slot signers) payload (subst (λ (d : ℕ). d < 2 ^ 32) (sym (range .today)) (assumed .dated)) ∙ same-slot-self slot
 
-    delivery-in : Reached s list → (u : ℕ) (payload : List ℕ) → correct s u ≡ true
-        → (ever s (announces s slot payload) list u ≡ true) ⊎ (ever s (delivers s slot payload) list u ≡ true)
-        → NearlyAll s (ever s (delivers s slot payload) list)
+    delivery-in : ReachedIn s list slot → DeliveryIn s list slot
     unfolding correct
     delivery-in reached u payload hu why =
         wider-nearly-all s (one-slot.ever q (one-slot.deliversThis q payload) slotActs) (ever s (delivers s slot payload) list) (λ v hv. delivered-back payload v)
@@ -217,26 +223,45 @@ module _ (s : System) (list : Trace Call) (orderly : Orderly s list) (slot : Slo
 
 -- ---- every slot
 
--- Demand 3 holds if the theorem on values does.
-pub demand3-from : OneSlotHolds → Demand3
-demand3-from theorem s list assumed =
+pub counts-in-order : CountsInOrder
+counts-in-order s list orderly u slot = (
+  bounded s list u slot (deliversIn s slot) 1 (delivers-range s u slot) (λ range. delivers-once-in s list orderly slot range u),
+  bounded s list u slot (announcesIn s slot) 1 (λ call records e. announces-range s u slot call records e .0) (λ range. announces-once-in s list orderly slot range u),
+  bounded s list u slot (sendsIn s slot) 2 (sends-range s u slot (orderly .dated)) (λ range. sends-at-most-twice-in s list orderly slot range u),
+)
+
+-- Demand 3 slot by slot holds if the theorem on values does,
+slot-by-slot-from : OneSlotHolds → SlotBySlot
+slot-by-slot-from theorem s list assumed =
     let orderly = assumed-orderly s list assumed in
     record {
       agreement = λ u v slot first second hu hv e f.
           agreement-in s list orderly slot (delivered-range s list u slot first e) theorem assumed u v first second hu hv e f;
-      delivers-once = λ u slot hu.
-          bounded s list u slot (deliversIn s slot) 1 (delivers-range s u slot) (λ range. delivers-once-in s list orderly slot range theorem assumed u);
+      delivers-once = λ u slot hu. counts-in-order s list orderly u slot .0;
       validity = λ u slot payload hu hs e.
           validity-in s list orderly slot (delivered-range s list u slot payload e) theorem assumed u payload hu hs e;
-      announces-once = λ u slot hu.
-          bounded s list u slot (announcesIn s slot) 1 (λ call records e. announces-range s u slot call records e .0)
-          (λ range. announces-once-in s list orderly slot range theorem assumed u);
-      sends-at-most-twice = λ u slot hu.
-          bounded s list u slot (sendsIn s slot) 2 (sends-range s u slot (assumed .dated)) (λ range. sends-at-most-twice-in s list orderly slot range theorem assumed u);
-      delivery = λ reached u slot payload hu why.
+      announces-once = λ u slot hu. counts-in-order s list orderly u slot .1;
+      sends-at-most-twice = λ u slot hu. counts-in-order s list orderly u slot .2;
+      delivery = λ slot reached u payload hu why.
           delivery-in s list orderly slot (acted-range s list u slot payload why) theorem assumed reached u payload hu why;
+    }
+
+pub slot-by-slot : SlotBySlot
+slot-by-slot = slot-by-slot-from one-slot-holds
+
+-- and demand 3 follows: where every bundle has reached nearly all, those of each slot have
+pub demand3-from : SlotBySlot → Demand3
+demand3-from theorem s list assumed =
+    let concluded = theorem s list assumed in
+    record {
+      agreement = concluded .agreement;
+      delivers-once = concluded .delivers-once;
+      validity = concluded .validity;
+      announces-once = concluded .announces-once;
+      sends-at-most-twice = concluded .sends-at-most-twice;
+      delivery = λ reached u slot payload. concluded .delivery slot (λ v bundle hv here. reached v bundle hv) u payload;
     }
 
 -- Demand 3.
 pub demand3 : Demand3
-demand3 = demand3-from one-slot-holds
+demand3 = demand3-from slot-by-slot

@@ -13,7 +13,7 @@ use Rattle.protocol.specs.Trace.{each}
 use Rattle.system.specs.Demand3.{inSlot, correct, correctCount, opens, announcesIn, announces, deliversIn, delivers, sends, sendsThis, sendsIn, signs, reaches, ever, Assumed}
 use Rattle.system.specs.Example.{sixNodes, six, firstSlot, first, second, third, gets, faultySlot, correctSlot, list, reached, NotVacuous}
 use Rattle.system.proofs.Computing.{calls-compute}
-use Rattle.system.proofs.ComputedTests.{given-before, unforged-test, lawful-test, lawful-says, sent-test, sent-says}
+use Rattle.system.proofs.ComputedTests.{given-before, unforged-now, unforged-test, lawful-test, lawful-says, sent-test, sent-says}
 
 -- what the list is tested for
 passes : (lawful-test six list ≡ true)
@@ -23,7 +23,7 @@ passes : (lawful-test six list ≡ true)
     × (ever six (announces six (firstSlot 0) third) list 0 ≡ true)
     × (each (ever six (delivers six (firstSlot 0) third) list) 5 ≡ true)
 unfolding sixNodes six firstSlot first second third gets faultySlot correctSlot list calls-compute inSlot correct correctCount opens announcesIn announces deliversIn delivers sends sendsIn signs
-    reaches count each trace.ever given-before unforged-test lawful-test sent-test
+    reaches count each trace.ever given-before unforged-now unforged-test lawful-test sent-test
 passes = (refl, refl, refl, refl, refl, refl)
 
 assumed : Assumed six list

@@ -8,8 +8,12 @@ pub mod CallMatchesAct
 pub mod CallTests
 pub mod Simulation
 pub mod Demand3
+pub mod Differences
 pub mod Shown
+pub mod OrderlyRefusals
 pub mod Computing
 pub mod ComputedTests
+pub mod SlotBySlot
 pub mod Example
+pub mod Tight
 pub mod Play

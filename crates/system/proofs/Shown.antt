@@ -1,5 +1,5 @@
--- What the nodes show is what they delivered: the claims of specs/Shown.antt. After a lawful list the slot's bytes at a node are the record that the
--- acts leave, and that record is delivered with a payload exactly if the payload was delivered. From proofs/Simulation.antt, and the laws of showing and of values.
+-- What the nodes show is what they delivered: the claims of specs/Shown.antt. After a lawful list the slot's bytes at a node that was called are the
+-- record that the acts leave, and that record is delivered with a payload exactly if the payload was delivered. From proofs/Simulation.antt, and the laws of showing and of values.
 -- Assumes nothing.
 use mathlib.Core.Path.{_≡_, refl, sym, ap, _∙_, subst}
 use mathlib.Core.Bool.{Bool, true, false, true≢false, and-eq-true-iff}
@@ -24,10 +24,11 @@ use Rattle.calls.proofs.Refusals.{delivered-says}
 use Rattle.calls.proofs.Preserved.{record-shown}
 use Rattle.system.specs.Demand3.{Call, Open, Broadcast, Receive, System, configAt, recordsAfter, deliversIn, delivers, buffer, ever, called}
 use Rattle.system.specs.Shown.{shownPlace, shownPayload, ShownIsDelivered, ShownAgrees}
+use Rattle.system.specs.Order.{Orderly}
 use Rattle.system.proofs.CommonConfig.{quorumOf, config-good, config-quorum, InRange, range-at, range-from}
 use Rattle.system.proofs.CallMatchesAct.{HoldsRecord}
 use Rattle.system.proofs.CallTests.{delivers-in}
-use Rattle.system.proofs.Simulation.{correct-below, Orderly, assumed-orderly, acts, slotRecord, order-holds}
+use Rattle.system.proofs.Simulation.{correct-below, assumed-orderly, acts, slotRecord, order-holds}
 use Rattle.system.proofs.Demand3.{delivered-forth, delivered-back, delivered-range, demand3}
 
 -- a record that is delivered has signers beside its payload
@@ -124,10 +125,8 @@ module _ (s : System) (list : Trace Call) (orderly : Orderly s list) (u : ℕ) (
 
 pub shown-is-delivered : ShownIsDelivered
 unfolding slotOfDay
-shown-is-delivered s list assumed u sender seq payload fine here =
-    let orderly = assumed-orderly s list assumed in
+shown-is-delivered s list orderly u sender seq payload known here =
     let slot = slotOfDay (s .shared) sender seq in
-    let known = correct-below s u fine in
     (shown-delivered s list orderly u slot refl known here payload, delivered-shown s list orderly u slot refl known here payload)
 
 -- the payloads shown were delivered, and those agree

@@ -1,5 +1,5 @@
--- A list of calls and what it comes to in one slot: after every lawful list the slot's bytes at each node are the record that the acts leave, each
--- call matches its act, and the acts are lawful on values. By induction on the list.
+-- A list of calls and what it comes to in one slot: after every lawful list the slot's bytes at each node that was called are the record that the acts
+-- leave, each call matches its act, and the acts are lawful on values. By induction on the list.
 -- Assumes nothing.
 use mathlib.Core.Path.{_≡_, refl, sym, ap, _∙_, subst}
 use mathlib.Core.Option.{Option, none, some}
@@ -20,7 +20,8 @@ use Rattle.protocol.specs.OneSlot as one-slot
 use Rattle.protocol.specs.OneSlot.{Act}
 use Rattle.protocol.proofs.CorrectNodes as nodes
 use Rattle.calls.proofs.ReceiveFacts.{read-says}
-use Rattle.system.specs.Demand3.{Call, Open, Broadcast, Receive, System, configAt, correct, opens, recordsAfter, signs, buffer, ever, called, Unforged, Lawful, Assumed}
+use Rattle.system.specs.Demand3.{Call, Open, Broadcast, Receive, System, configAt, correct, opens, recordsAfter, signs, buffer, ever, called, Unforged, Lawful}
+use Rattle.system.specs.Order.{InOrder, AssumedOrderly}
 use Rattle.system.proofs.Projection as projection
 use Rattle.system.proofs.Projection.{project, Matched, state-project, ever-forth}
 use Rattle.system.proofs.CallInSlot.{actIn, CallCase, call-case, opening, broadcast-here, broadcast-elsewhere, broadcast-refused, received-here, received-elsewhere, received-no-room, received-unread}
@@ -33,27 +34,12 @@ pub correct-below : (s : System) (u : ℕ) → correct s u ≡ true → u < s .s
 unfolding correct
 correct-below s u = nodes.correct-below (s .shared .n) (s .faulty) u
 
--- What demand 3 assumes but for faults and signatures: the configuration is good, each call is at a node of it, whose buffer has the right length, and
--- each node opens the day first and once only. This is enough for the records to be kept.
-abbrev pub InOrder : (s : System) (list : Trace Call) → Type 0
-InOrder s start = Unit
-InOrder s (earlier then u calls call) =
-    InOrder s earlier
-    × (u < s .shared .n)
-    × (length (s .buffers u) ≡ recordsSize (configAt s u))
-    × (opens s u call (buffer s earlier u) ≡ not (called s earlier u))
-
-pub record Orderly (s : System) (list : Trace Call) : Type 0 where
-  pub configured : good (configAt s 0) ≡ true
-  pub dated : s .shared .day < 2 ^ 32
-  pub ordered : InOrder s list
-
 lawful-order : (s : System) (list : Trace Call) → Lawful s list → InOrder s list
 lawful-order s start lawful = tt
 lawful-order s (earlier then u calls call) lawful =
     (lawful-order s earlier (lawful .0), correct-below s u (lawful .1), lawful .2, lawful .3)
 
-pub assumed-orderly : (s : System) (list : Trace Call) → Assumed s list → Orderly s list
+pub assumed-orderly : AssumedOrderly
 assumed-orderly s list assumed =
     record { configured = assumed .configured; dated = assumed .dated; ordered = lawful-order s list (assumed .lawful) }
 

@@ -1,5 +1,5 @@
--- Demand 3 of document 01: one claim about a whole list of calls, at all correct nodes together. What the paper says of such a list under "The list
--- in demand 3" is a definition here, read off what the calls' own contracts cite: their answers, and the records and outgoing bytes that they leave.
+-- Demand 3: one claim about a whole list of calls, at all correct nodes together. What document 01 says of such a list under "The list in demand 3"
+-- is a definition here, read off what the calls' own contracts cite: their answers, and the records and outgoing bytes that they leave.
 -- A node is named by its own number.
 -- It is proved in proofs/Demand3.antt.
 -- Assumes nothing.

@@ -1,5 +1,9 @@
--- What is claimed of all correct nodes together, and two lists of calls that are written out.
+-- What is claimed of all correct nodes together, and lists of calls that are written out.
 pub mod Demand3
+pub mod Order
+pub mod Example
+pub mod SlotBySlot
+pub mod Differences
 pub mod Shown
 pub mod Play
-pub mod Example
+pub mod Tight

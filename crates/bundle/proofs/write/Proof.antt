@@ -52,30 +52,6 @@ module _ (c : tie.After-check) where
 fine-known : (c : tie.After-enum-told) → unless {A = Unit} (headerReasons (given (checked c) .args .config) (header (checked c))) tt ≡ done tt
 fine-known c = sym (check-known (checked c)) ∙ ap verdictOf (c .enum-told .given .1)
 
-module _ (c : tie.Else3) where
-  abbrev asked : tie.After-check
-  asked = checked (fine c)
-
-  written : write (given asked .args .config) (given asked .args .sender) (given asked .args .seq) (given asked .args .signers) (given asked .args .payload .now) (given asked .args .out .now)
-      ≡ done (bundleOf (header asked) (given asked .args .payload .now))
-  written =
-      writable-written _ _ _ _ _ _
-      (record {
-        configured = good-known (configured asked);
-        clear = done-clear _ _ _ (fine-known (fine c)) .0;
-        whole = c .before .if2 .left;
-        room = c .if3 .left;
-      })
-
--- what `encode` leaves is the bundle
-encoded-known : (c : tie.After-load)
-    → encoded (header (asked (c .before))) (bytes (c .load .result)) (given (asked (c .before)) .args .out .now)
-    ≡ bundleOf (header (asked (c .before))) (given (asked (c .before)) .args .payload .now)
-unfolding encoded
-encoded-known c =
-    rw (eq-eqb _ _ (c .before .if3 .left))
-    (ap (bundleOf (header (asked (c .before)))) (c .load .ensures ∙ payload-loaded _ (c .before .before .if2 .left)))
-
 -- ---- the needs
 
 good-requires : tie.Need-good-requires
@@ -101,6 +77,31 @@ returns-3 c = no-effect _ _ _ _ (write-payload _ _ _ _ _ _ (good-known (configur
 
 returns-4 : tie.Need-returns-4
 returns-4 c = no-effect _ _ _ _ (write-out _ _ _ _ _ _ (good-known (configured (checked (c .before .before)))) (fine-known (c .before .before)) (c .before .if2 .left) (c .if3 .taken))
+
+-- once all tests are passed, what is written is the bundle
+module _ (c : tie.Else3) where
+  abbrev asked : tie.After-check
+  asked = checked (fine c)
+
+  written : write (given asked .args .config) (given asked .args .sender) (given asked .args .seq) (given asked .args .signers) (given asked .args .payload .now) (given asked .args .out .now)
+      ≡ done (bundleOf (header asked) (given asked .args .payload .now))
+  written =
+      writable-written _ _ _ _ _ _
+      (record {
+        configured = good-known (configured asked);
+        clear = done-clear _ _ _ (fine-known (fine c)) .0;
+        whole = c .before .if2 .left;
+        room = c .if3 .left;
+      })
+
+-- what `encode` leaves is the bundle
+encoded-known : (c : tie.After-load)
+    → encoded (header (asked (c .before))) (bytes (c .load .result)) (given (asked (c .before)) .args .out .now)
+    ≡ bundleOf (header (asked (c .before))) (given (asked (c .before)) .args .payload .now)
+unfolding encoded
+encoded-known c =
+    rw (eq-eqb _ _ (c .before .if3 .left))
+    (ap (bundleOf (header (asked (c .before)))) (c .load .ensures ∙ payload-loaded _ (c .before .before .if2 .left)))
 
 load-requires : tie.Need-load-requires
 load-requires c κs = search needs

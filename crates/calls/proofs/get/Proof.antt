@@ -1,4 +1,4 @@
--- `get` meets its contract: a part of the buffer's 32 bytes is loaded as it is. Assumes nothing.
+-- `get` meets its contract: a part of the buffer, as long as a record, is loaded as it is. Assumes nothing.
 use mathlib.Core.Path.{_∙_}
 use Rattle.calls.proofs.RecordBounds.{loaded-part}
 use borrow.Author.Needs.{needs}

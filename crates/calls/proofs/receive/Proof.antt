@@ -1,4 +1,4 @@
--- `receive` meets its contract: each refusal follows from the tests passed before it, and the rest from the step and its settling. Assumes nothing.
+-- `receive` meets its contract: each refusal follows from the tests passed before it, and the rest from the update and its settling. Assumes nothing.
 use mathlib.Core.Path.{_≡_, sym, ap, ap₂, _∙_}
 use mathlib.Core.Bool.{true}
 use mathlib.Core.List.{List, _++_}
@@ -80,7 +80,7 @@ module _ (c : tie.Else2) where
       ≡ received config (fields .sender) (fields .signers) (payloadPart config bundle) (recordAt config (slotOf fields) records)
   recorded = receive-recorded _ _ _ _ _ (accepted (accepting c)) (c .before .before .if1 .left) long-known
 
--- ---- and at the step
+-- ---- and at the update
 
 slot-known : (c : tie.After-place) → c .before .slot-of-day .result ≡ slotOf (fields (sized c))
 unfolding slotOfDay

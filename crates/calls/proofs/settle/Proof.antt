@@ -1,4 +1,4 @@
--- `settle` meets its contract: the record is stored, and its bundle sent, as the step's answer says. Assumes nothing.
+-- `settle` meets its contract: the record is stored, and its bundle sent, as the answer says. Assumes nothing.
 use mathlib.Core.Path.{_≡_, refl, sym, ap, _∙_}
 use Prim.Native.Nat.{ℕ}
 use native.Mathlib.Omega.{arith}

@@ -1,7 +1,7 @@
 -- `first_line` meets its contract. Assumes nothing.
 use mathlib.Core.Path.{_≡_, ap, _∙_}
 use mathlib.Core.Logic.{⊎-elim}
-use Prim.Native.Nat.{_+_, _^_, _<_}
+use Prim.Native.Nat.{_<_}
 use native.Mathlib.Omega.{arith}
 use lib.ListN.{length}
 use Rattle.lines.proofs.FirstLine.{uses-usual, uses-same}
@@ -51,8 +51,7 @@ add-t17 c =
     let g = guessed p in
     let s = entry (unheld g .before) in
     let within : g .usual-end .result < length (s .args .chunk .now) = p .play-in-place .ensures .within (c .before .if2 .taken) in
-    let h : g .usual-end .result + 1 < 2 ^ 64 = omega (arith, within, s .good .1 .0) in
-    record { fits = h }
+    record { fits = omega (arith, within, s .good .1 .0) }
 
 same-length : tie.Need-same-length
 same-length c = search needs

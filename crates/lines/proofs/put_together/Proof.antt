@@ -1,8 +1,7 @@
 -- `put_together` meets its contract. Assumes nothing.
 use mathlib.Core.Path.{_≡_, _∙_}
-use Prim.Native.Nat.{_+_, _^_, _<_}
 use native.Mathlib.Omega.{arith}
-use lib.ListN.{length, take}
+use lib.ListN.{take}
 use Rattle.text.specs.Text.{before, lineFeed}
 use Rattle.text.proofs.Fields.{before-le}
 use Rattle.lines.proofs.FirstLine.{front-part, lineHeld, line-held, uses-part, uses-ended}
@@ -78,8 +77,7 @@ add-t15 c =
     let f = found (held (more (ended c) .before)) in
     let s = entry f in
     let end : f .find .result ≡ before lineFeed (s .args .chunk .now) = f .find .ensures in
-    let h : f .find .result + 1 < 2 ^ 64 = omega (arith, end, before-le lineFeed (s .args .chunk .now), s .good .1 .0) in
-    record { fits = h }
+    record { fits = omega (arith, end, before-le lineFeed (s .args .chunk .now), s .good .1 .0) }
 
 same-length-2 : tie.Need-same-length-2
 same-length-2 c = search needs

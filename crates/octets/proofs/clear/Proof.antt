@@ -31,7 +31,7 @@ loop-again : tie.Need-loop-again Inv-loop μ-loop
 loop-again c =
     let (l, e, f) = c .before .loop .inv in
     let below : c .before .loop .i < length (c .before .before .args .bytes .now) = omega (arith, c .loop-test .taken) in
-    (omega arith, length-set (c .before .loop .bytes) (c .before .loop .i) 0 ∙ e, cleared-more (c .before .before .args .bytes .now) (c .before .loop .bytes) (c .before .loop .i) below f)
+    (omega arith, length-set (c .before .loop .bytes) (c .before .loop .i) _ ∙ e, cleared-more (c .before .before .args .bytes .now) (c .before .loop .bytes) (c .before .loop .i) below f)
 
 same-length : tie.Need-same-length Inv-loop μ-loop
 same-length c = c .before .loop .inv .1

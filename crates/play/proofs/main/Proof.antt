@@ -73,7 +73,7 @@ array-share-prefix-out-2 : tie.Need-array-share-prefix-out-2 Inv-loop μ-loop
 array-share-prefix-out-2 c = search needs
 
 slice-aggregate-print-2 : tie.Need-slice-aggregate-print-2 Inv-loop μ-loop
-slice-aggregate-print-2 c = sym (length-take-le _ _ (c .before .before .feed .ensures .1 .1 .1))
+slice-aggregate-print-2 c = sym (length-take-le _ _ (c .before .before .feed .ensures .1 .1 .1 .1 .1 .1))
 
 print-requires-2 : tie.Need-print-requires-2 Inv-loop μ-loop
 print-requires-2 c κs = search needs

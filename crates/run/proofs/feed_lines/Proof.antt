@@ -94,7 +94,8 @@ returns : tie.Need-returns Inv-loop μ-loop
 returns c =
     let s = entry (c .before) in
     let (known, (printed, text)) = all-used (at-first s) (s .args .chunk .now) (s .args .out .now) _ _ _ _ _ _ (c .loop-test .left) (c .before .loop .inv .2) in
-    (known, (printed, (text, omega (arith, c .before .loop .inv .1, printed, bytes-length (at-first s) (s .args .chunk .now), s .pre .0))))
+    let all : c .before .loop .at ≡ length (s .args .chunk .now) = omega (arith, c .loop-test .left, c .before .loop .inv .0) in
+    (known, (all, (printed, (text, omega (arith, c .before .loop .inv .1, printed, bytes-length (at-first s) (s .args .chunk .now), s .pre .0)))))
 
 pub feed-lines-spec : {M : Type 1} → statement M
 feed-lines-spec =

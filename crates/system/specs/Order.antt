@@ -1,0 +1,54 @@
+-- Lists of calls in order: what demand 3 assumes but for faults and signatures. Some laws need no more, and hold whoever is faulty and whatever is forged. They are proved
+-- in proofs/Simulation.antt, proofs/Demand3.antt and proofs/OrderlyRefusals.antt.
+-- Assumes nothing.
+use mathlib.Core.Path.{_≡_}
+use mathlib.Core.Bool.{true, not}
+use mathlib.Core.List.{List}
+use Prim.Native.Nat.{ℕ, _≤_, _<_, _^_}
+use lib.ListN.{length}
+use Rattle.refusal.specs.Outcome.{refused}
+use Rattle.config.specs.declared.Slot.{Slot}
+use Rattle.config.specs.Config.{good, recordsSize}
+use Rattle.protocol.specs.Trace.{Trace, start, _then_calls_}
+use Rattle.calls.specs.Broadcast.{broadcast}
+use Rattle.calls.specs.Receive.{receive}
+use Rattle.calls.specs.Showing.{delivered}
+use Rattle.system.specs.Demand3.{Call, Receive, System, configAt, correct, opens, announcesIn, deliversIn, sendsIn, buffer, times, called, Unforged, Assumed}
+
+-- Each call is at a node, whose buffer has the right length, and each node called opens the day first, and once only.
+abbrev pub InOrder : (s : System) (list : Trace Call) → Type 0
+InOrder s start = Unit
+InOrder s (earlier then u calls call) =
+    InOrder s earlier
+    × (u < s .shared .n)
+    × (length (s .buffers u) ≡ recordsSize (configAt s u))
+    × (opens s u call (buffer s earlier u) ≡ not (called s earlier u))
+
+pub record Orderly (s : System) (list : Trace Call) : Type 0 where
+  pub configured : good (configAt s 0) ≡ true
+  pub dated : s .shared .day < 2 ^ 32
+  pub ordered : InOrder s list
+
+-- Every list of demand 3 is one.
+abbrev pub AssumedOrderly : Type 0
+AssumedOrderly = (s : System) (list : Trace Call) → Assumed s list → Orderly s list
+
+-- On such a list no node delivers or announces twice in a slot, and none sends more than two bundles there.
+abbrev pub CountsInOrder : Type 0
+CountsInOrder =
+    (s : System) (list : Trace Call) → Orderly s list → (u : ℕ) (slot : Slot)
+    → (times s (deliversIn s slot) list u ≤ 1) × (times s (announcesIn s slot) list u ≤ 1) × (times s (sendsIn s slot) list u ≤ 2)
+
+-- After such a list a node that was called has no record that is not well-formed, so that no call there is refused by 21.
+abbrev pub NeverMalformed : Type 0
+NeverMalformed =
+    (s : System) (list : Trace Call) → Orderly s list → (u : ℕ) → u < s .shared .n → called s list u ≡ true
+    → ((payload out : List ℕ) → broadcast (configAt s u) payload (buffer s list u) out ≡ refused 21 → ⊥)
+    × ((bundle out : List ℕ) → receive (configAt s u) bundle (buffer s list u) out ≡ refused 21 → ⊥)
+    × ((slot : Slot) → delivered (configAt s u) slot (buffer s list u) ≡ refused 21 → ⊥)
+
+-- And a bundle in which no correct node's signature is forged is not refused by 23 at a correct node: what the node signed it holds, or it has delivered the slot.
+abbrev pub NeverOwnUnknown : Type 0
+NeverOwnUnknown =
+    (s : System) (list : Trace Call) → Orderly s list → (u : ℕ) → correct s u ≡ true → called s list u ≡ true
+    → (bundle out : List ℕ) → Unforged s list u (Receive bundle out) → receive (configAt s u) bundle (buffer s list u) out ≡ refused 23 → ⊥
