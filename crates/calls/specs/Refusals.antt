@@ -1,5 +1,5 @@
--- A refusal changes nothing, whichever call it is of, and counts nothing; and when 7 never comes. bundle's specs/Refusals.antt has the same of reading and
--- writing. They are proved in proofs/NoEffect.antt.
+-- R5.1: a refusal changes nothing, whichever call it is of, and counts nothing. R5.6: when 7 never comes. bundle's specs/Refusals.antt has the same of
+-- reading and writing. They are proved in proofs/NoEffect.antt.
 -- Assumes nothing.
 use mathlib.Core.Path.{_≡_}
 use mathlib.Core.List.{List, []}
