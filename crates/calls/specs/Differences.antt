@@ -22,7 +22,8 @@ module _ (config : Config) (bundle records out : List ℕ) (h : Header) (result 
     pub accepted : read config bundle ≡ done h
     pub answered : receive config bundle records out ≡ done result
 
--- R8.4: where the record holds another payload, this bundle alone brings a quorum. Its payload is delivered, and the record has its signers and no others.
+-- R8.4, R13.3: where the record holds another payload, this bundle alone brings a quorum. Its payload is delivered, and the record has its signers and no
+-- others.
 abbrev pub OtherNeedsQuorum : Type 0
 OtherNeedsQuorum =
     (config : Config) (bundle records out : List ℕ) (h : Header) (result : Update) → AnsweredReceive config bundle records out h result

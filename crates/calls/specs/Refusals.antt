@@ -29,7 +29,7 @@ RefusedReceiveChangesNothing =
     (config : Config) (bundle records out : List ℕ) (number : ℕ) → receive config bundle records out ≡ refused number
     → (receiveRecords config bundle records out ≡ records) × (receiveOut config bundle records out ≡ out)
 
--- Showing has no buffer to change, and gives the empty part at the records' start.
+-- R9.2: showing has no buffer to change, and gives the empty part at the records' start.
 abbrev pub RefusedShowingGivesNothing : Type 0
 RefusedShowingGivesNothing =
     (config : Config) (slot : Slot) (records : List ℕ) (number : ℕ) → delivered config slot records ≡ refused number

@@ -137,7 +137,7 @@ pub quorum-strict : (config : Config) (k : ℕ) → good config ≡ true → leb
 unfolding quorum
 quorum-strict config k e = rw e (more-than-half (config .n + config .t) k)
 
--- configurations that differ in own number and day alone have one quorum
+-- good configurations with the same n and t have one quorum
 pub quorum-shared : (config other : Config) → config .n ≡ other .n → config .t ≡ other .t → good config ≡ true → good other ≡ true → quorum config ≡ quorum other
 unfolding quorum
 quorum-shared config other n t g h = rw (g, h, n, t)

@@ -1,5 +1,5 @@
--- RULES section 2: when a configuration, called table in the formats, is good, and what it gives; and where a day's records lie (R4.2, R4.3). As there, n is
--- the number of nodes, t that of the faults borne, and d that of the correct nodes that one sending may miss (R2.1).
+-- RULES section 2: when a configuration, called table in the formats, is good, and what it gives; and where a day's records lie (R4.2, R4.3). n is the
+-- number of nodes, t that of the faults borne, and d that of the correct nodes that one sending may miss (R2.1).
 -- Assumes nothing.
 use mathlib.Core.Bool.{Bool, cond, _&&_}
 use Prim.Native.Nat.{ℕ, _+_, _-_, _*_, _/_, _^_}

@@ -13,7 +13,7 @@ pub const SLOTS: u8 = 16;
 // Bytes of one record, and so the distance from one slot's place to the next.
 pub const RECORD_SIZE: usize = 32;
 
-// R2.6: what a broadcast has to itself, the sender's `seq`-th of a day, from 0.
+// R2.6: what a broadcast has to itself. It is the sender's `seq`-th of the day, counted from 0.
 pub struct Slot {
     pub day: u32,
     pub sender: u8,
@@ -123,7 +123,7 @@ impl Config {
         slot.place()
     }
 
-    // R4.2: how many bytes the records of a day take. It is not 0 where the configuration is not good.
+    // R4.2: how many bytes the records of a day take: 512 × n, also where the configuration is not good.
     pub fn records_size(self) -> usize
         ensures { λ r. ⌜ r ≡ recordsSize self ⌝ }
     {

@@ -32,7 +32,7 @@ pub record Run : Type 0 where
   pub state : State
   pub effects : List Effect
 
--- the signatures of `sigs` for m are saved beside those that were
+-- the signatures of `sigs` for m are saved, beside those that were saved before
 unfoldable pub save : (m : List ℕ) (sigs : ℕ) (σ : State) → State
 save m sigs σ = record {
   saved = λ x. cond (same x m) (union (σ .saved x) sigs) (σ .saved x);
@@ -52,7 +52,7 @@ bundleEffect m σ = broadcast (σ .saved m) m
 unfoldable pub onBroadcast : (own : ℕ) (m : List ℕ) (σ : State) → Run
 onBroadcast own m σ = record { state = sign own m σ; effects = bundleEffect m (sign own m σ) ∷ [] }
 
--- R13.7: line 9 asks for strictly more than (n + t)/2 signatures. In whole numbers that is (n + t)/2, rounded down, and 1, or more.
+-- R13.7: line 9 asks for strictly more than (n + t)/2 signatures. In whole numbers that is at least (n + t)/2, rounded down, plus 1.
 abbrev pub LeastQuorumIsLine9 : Type 0
 LeastQuorumIsLine9 = (n t k : ℕ) → leb ((n + t) / 2 + 1) k ≡ ltb (n + t) (k + k)
 
@@ -62,7 +62,7 @@ unfoldable pub valid : (own : ℕ) (m : List ℕ) (sigs : ℕ) (σ : State) → 
 valid own m sigs σ = cond (member sigs own && not (member (σ .saved m) own)) (without sigs own) sigs
 
 module _ (own q sender : ℕ) (m : List ℕ) where
-  -- lines 9 to 12, with the quorum q: where it is saved for m, p_i broadcasts the BUNDLE of m and delivers m
+  -- lines 9 to 12, with the quorum q: where that many signatures are saved for m, p_i broadcasts the BUNDLE of m and delivers m
   unfoldable pub line9 : (σ : State) → Run
   line9 σ =
       cond (leb q (size (σ .saved m)))

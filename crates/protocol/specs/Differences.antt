@@ -15,8 +15,8 @@ use Rattle.protocol.specs.OneSlot.{Act, Broadcast, Receive, signs, deliv
 
 -- ---- one update
 
--- R8.4: a record that holds a payload takes another one only from a single bundle that brings a quorum for it. That one is then delivered, with the signers of
--- this bundle and no others.
+-- R8.4, R13.3: a record that holds a payload takes another one only from a single bundle that brings a quorum for it. That one is then delivered, with the
+-- signers of this bundle and no others.
 abbrev pub OtherNeedsQuorum : Type 0
 OtherNeedsQuorum =
     (own q signers : ℕ) (payload : List ℕ) (r : Record) (result : Update)

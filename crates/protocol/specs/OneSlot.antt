@@ -90,7 +90,7 @@ module _ (q : ℕ) where
 abbrev pub correct : (n : ℕ) (faulty : NodeSet) → NodeSet
 correct n faulty u = ltb u n && not (faulty u)
 
--- R2.8: what the argument asks of the quorum, where at most t nodes are faulty and a sending may miss d correct nodes. A word of signers has room for 64.
+-- R2.8: what the argument asks of the quorum, where at most t nodes are faulty and a sending may miss d correct nodes. A word of signers has 64 bits.
 pub record Quorum (n t d q : ℕ) : Type 0 where
   pub fits : n ≤ 64
   pub intersects : n + t < q + q

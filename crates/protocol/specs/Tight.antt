@@ -106,7 +106,8 @@ ForgedTight =
 unfoldable pub notRefused : (q own : ℕ) (act : Act) (r : Record) → Bool
 notRefused q own act r = after (outcome q own act r) (λ result. true) false
 
--- R14.16: two bundles are sent, so that no smaller bound holds; and a node that sent at every act that is not refused, kept ones too, would send three (R17.5).
+-- R14.16: two bundles are sent, so that no smaller bound holds. A node that sent on every bundle that it does not refuse, kept ones too, would send three
+-- (R17.5).
 abbrev pub SendsTight : Type 0
 SendsTight =
     (list : Trace Act)

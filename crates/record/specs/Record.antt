@@ -56,7 +56,7 @@ stateAllows config sender bytes Empty = blank bytes
 stateAllows config sender bytes (Held signers payload) = member signers sender && member signers (config .own)
 stateAllows config sender bytes (Delivered signers payload) = member signers sender && leb (quorum config) (size signers)
 
--- R4.4: there is such a state, the seven bytes after it are zero, only nodes have signed, and what the state asks for is so
+-- R4.4: the state is one of the three, the seven bytes after it are zero, only nodes have signed, and what the state asks for is so
 unfoldable pub wellFormed : (config : Config) (sender : ℕ) (bytes : List ℕ) → Bool
 wellFormed config sender bytes =
     ltb (stateField bytes) 3
