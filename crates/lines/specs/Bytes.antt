@@ -1,4 +1,4 @@
--- An input byte by byte, as it comes in pieces: what is known after so much of it, what is printed for each line as it ends, and what is kept of it.
+-- An input byte by byte, as it comes in pieces (R15.11): what is known after so much of it, what is printed for each line as it ends, and what is kept of it.
 -- Assumes nothing.
 use mathlib.Core.Path.{_≡_}
 use mathlib.Core.Bool.{cond}
@@ -50,7 +50,7 @@ unfoldable pub bytesText : (p : Progress) (bytes : List ℕ) → List ℕ
 bytesText p [] = []
 bytesText p (b ∷ bs) = byteText p b ++ bytesText (afterByte p b) bs
 
--- A piece after a piece is the two together, so that it does not matter how the input is cut.
+-- R15.11: a piece after a piece is the two together, so that it does not matter how the input is cut.
 abbrev pub Pieces : Type 0
 Pieces =
     (p : Progress) (first second : List ℕ)
@@ -78,7 +78,7 @@ module _ (p : Progress) where
 abbrev pub KeptStands : Type 0
 KeptStands = (p : Progress) → length (p .line) ≤ lineSpace → progress (keptRun p) (keptLine p) (p .records) ≡ p
 
--- And no bytes make the line longer than that.
+-- R15.11: and no bytes make the line longer than that.
 abbrev pub LineHasRoom : Type 0
 LineHasRoom = (p : Progress) (bytes : List ℕ) → length (p .line) ≤ lineSpace → length (afterBytes p bytes .line) ≤ lineSpace
 

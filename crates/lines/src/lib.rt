@@ -1,5 +1,5 @@
-// Lines of an input that comes in pieces: a line that has not ended yet is held, and one that has ended does
-// what it asks for.
+// Lines (R15.3) of an input that comes in pieces (R15.11): a line that has not ended yet is held, and one that
+// has ended does what it asks for.
 use nodes::RECORDS_SPACE;
 use stages::LINE_SPACE;
 use stages::State;

@@ -14,7 +14,7 @@ use Rattle.row.specs.declared.StepRow.{StepRow}
 use Rattle.row.specs.declared.StepRow.the-variants.{Unread, At}
 use Rattle.step.specs.Step.{answerOf, recordsBy, actOf, stepText, unreadText}
 
--- "It plays at most 8 units"
+-- R15.1: so many nodes a run may have
 abbrev pub mostNodes : ℕ
 mostNodes = 8
 
@@ -41,7 +41,7 @@ module _ (config : Config) where
 
   -- ---- opening
 
-  -- the day opened at the first nodes, so many of them
+  -- R15.2: the day opened at the first nodes, so many of them
   unfoldable pub openedUpTo : (count : ℕ) (records : List ℕ) → List ℕ
   openedUpTo zero records = records
   openedUpTo (suc node) records =
@@ -58,7 +58,7 @@ module _ (config : Config) where
   rowRecords Unread records = records
   rowRecords (At node step) records = putRecords node (recordsBy (withOwn config node) step (recordsAt node records)) records
 
-  -- What is printed for it. A row's ordinal is its place among the step rows, counted from 1: the printed column `line`.
+  -- What is printed for it. A row's ordinal is its place among the step rows, counted from 1: the printed column `line` (R16.2).
   abbrev pub rowText : (ordinal : ℕ) (row : StepRow) (records : List ℕ) → List ℕ
   rowText ordinal Unread records = unreadText ordinal
   rowText ordinal (At node step) records =

@@ -10,7 +10,7 @@ ghost use Rattle.row.specs.Row.{rowIn};
 ghost use Rattle.step.specs.Step.{printedOver, printedEnd};
 ghost use Rattle.nodes.specs.Nodes.{recordsSpace, playedNodes, openedRecords, rowRecords, readText};
 
-// How many nodes a run may have.
+// How many nodes a run may have (R15.1).
 pub const NODES: u8 = 8;
 
 // Each node has a part of the buffer, all of one length: what the records take in a system of eight nodes.
@@ -29,7 +29,7 @@ pub fn played(config: Config) -> u8
     config.n
 }
 
-// Opens the day at every node that is played.
+// Opens the day at every node that is played (R15.2).
 pub fn open(config: Config, records: &mut [u8; RECORDS_SPACE])
     ensures { λ _. ⌜ now (records .exit) ≡ openedRecords config (now (records .entry)) ⌝ }
 {

@@ -1,6 +1,7 @@
-// Runs document 01's own examples and writes what the library answers; the file `stdout` holds what the
-// paper says, and for the bundles what its layout makes of the play's steps. First the tables, then the
-// bundles, written and read back, then each reason for which reading and writing refuse.
+// Runs the examples that docs/RULES.md gives and writes what the library answers; the file `stdout` holds what
+// the rules say. First the tables (R2.7) and one more, then the bundles that the layout (R3.1) makes of the
+// steps of the first run (R16.5), written and read back, then each reason for which reading and writing refuse
+// (R5.3).
 use bundle::Reading;
 use config::Config;
 use libc::STDOUT_FILENO;
@@ -24,7 +25,7 @@ fn tables() {
     table(5, 1, 1);
     table(64, 0, 32);
     table(65, 0, 0);
-    // Where rounding (n + t)/2 up would give 3.
+    // Where half of n + t, rounded up, would give 3 (R17.5).
     table(5, 1, 0);
 }
 

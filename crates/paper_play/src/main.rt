@@ -1,6 +1,6 @@
-// Plays the run of document 01 by a node's calls, and writes what the paper says that it prints: the file
-// `stdout` holds that. Then come the bundles that were sent, a delivered payload, what one node would send on,
-// and each reason for which the calls refuse.
+// Plays the first run (R16.5 of docs/RULES.md) by a node's calls, and writes what is printed for it: the file
+// `stdout` holds that. Then come the bundles that were sent, a delivered payload, whether one node has something
+// to send on, and each reason for which the calls refuse (R5.3).
 //
 // It shows how the calls are used. A node has 512 bytes of records for each node of the system, opens the day
 // over them once, and from then on lends them, with 32 outgoing bytes, to each call. It sends the outgoing
@@ -27,7 +27,7 @@ const PAYLOAD: [u8; payload::SIZE] = [0, 1, 2, 3, 4, 5, 6, 7, 8, 9, 10, 11, 12, 
 pub(crate) const RECORDS_SIZE: usize = config::RECORD_SIZE * (config::SLOTS as usize) * 4;
 
 // The seven steps; of each step that sends, the outgoing bytes are kept. What a node receives is what a node
-// sent, as the paper's rows have it, but for step 6.
+// sent, as the rows of the run have it, but for step 6.
 fn main() {
     let mut records0 = opened(0);
     let mut records1 = opened(1);
@@ -110,7 +110,7 @@ fn broadcast(step: u64, own: u8, records: &mut [u8], out: &mut [u8]) {
     broadcast_row(step, own, answer);
 }
 
-// The number that was used is in the answer, too; the paper's row does not have it.
+// The number that was used is in the answer, too; the printed row does not have it (R16.2).
 fn broadcast_row(step: u64, own: u8, answer: Announcement) {
     decimal(step);
     text(b" A ");

@@ -1,7 +1,8 @@
-// Each reason for which a call refuses, in the order of document 01, provoked by one call each.
+// Each reason for which opening, announcing, taking and showing refuse (R5.3), call by call in the order of the
+// numbers, provoked by one call each.
 //
-// A refusal changes no byte: the records are compared with a copy from before the call, and the outgoing bytes,
-// which are all ee before it, with that.
+// A refusal changes no byte (R5.1): the records are compared with a copy from before the call, and the outgoing
+// bytes, which are all ee before it, with that.
 use crate::PAYLOAD;
 use crate::RECORDS_SIZE;
 use crate::node;

@@ -1,4 +1,4 @@
-// Plays a written run, document 01's run program: standard input to standard output, in constant memory.
+// Plays a written run (R15.1): standard input to standard output, in constant memory (R15.11).
 //
 // What is printed for an input is what crates/run promises; here bytes are read and written.
 use libc::STDERR_FILENO;

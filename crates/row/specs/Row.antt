@@ -1,5 +1,4 @@
--- Document 01, "The run program": the lines of a run file. The paper's unit is a node here, its number of a slot is `seq` and its body is the
--- payload.
+-- The lines of a run file: R15.5 to R15.10 of docs/RULES.md. A unit is a node here, the number of a slot is `seq` and a body is a payload.
 -- Assumes nothing.
 use mathlib.Core.Bool.{Bool, cond, _&&_}
 use mathlib.Core.List.{List}
@@ -17,7 +16,7 @@ use Rattle.row.specs.declared.StepRow.the-variants.{Unread, At}
 use Rattle.row.specs.declared.ConfigRow.{ConfigRow}
 use Rattle.row.specs.declared.ConfigRow.the-variants.{Good, Bad}
 
--- "Names lines are compared byte by byte."
+-- R15.5: the two lines of names
 unfoldable pub tableNames : List ℕ
 tableNames = ascii "units faults losses day"
 
@@ -37,7 +36,7 @@ configIn line = record {
   day = value 10 0 (afterFields 3 line);
 }
 
--- the line is no "bad table row": it has four plain numbers that fit, and the table is good
+-- R15.6, but for the bound of 8 nodes: four plain numbers that fit their fields and make a good configuration
 unfoldable pub isTable : (line : List ℕ) → Bool
 isTable line =
     plainUpTo 255 (field 0 line)
@@ -51,7 +50,7 @@ tableIn line = cond (isTable line) (Good (configIn line)) Bad
 
 -- ---- a step row
 
--- "- stands where A has no field"
+-- R15.8: `-`, for a field that act A does not have
 unfoldable pub absent : (text : List ℕ) → Bool
 absent text = same text (ascii "-")
 
@@ -59,7 +58,7 @@ absent text = same text (ascii "-")
 unfoldable pub payloadOfDigits : (digits : List ℕ) → Payload
 payloadOfDigits digits = record { high = value 16 0 (take 16 digits); low = value 16 0 (drop 16 digits) }
 
--- a row's six fields: "act unit sender number signers body". The payload's is all of the line after the fifth, so that a seventh field is part of it.
+-- A row's six fields, by the names in `stepNames`. The payload's is all of the line after the fifth, so that a seventh field is part of it.
 module _ (line : List ℕ) where
   unfoldable pub act : List ℕ
   act = field 0 line
@@ -79,11 +78,11 @@ module _ (line : List ℕ) where
       At node (Receive (value 10 0 (field 2 line)) (value 10 0 (field 3 line)) (value 16 0 (field 4 line)) (payloadOfDigits payloadDigits))
 
 module _ (n : ℕ) (line : List ℕ) where
-  -- the unit is one of the n: a row "with a unit n or above" is unread
+  -- R15.10: the row is at one of the n nodes
   unfoldable pub inSystem : Bool
   inSystem = plainUpTo 255 (field 1 line) && ltb (node line) n
 
-  -- the fields after act A: "Signers are 16 and a body 32 lowercase hexadecimal digits; - stands where A has no field, and nowhere else."
+  -- R15.8, R15.9: the fields after act A, a node, three that are absent, and the digits of a payload
   unfoldable pub broadcastFields : Bool
   broadcastFields =
       inSystem
@@ -92,7 +91,7 @@ module _ (n : ℕ) (line : List ℕ) where
       && (absent (field 4 line)
       && hex 32 (payloadDigits line))))
 
-  -- the fields after act B: sender and number are 255 at most, and - stands for none of them
+  -- and after act B, of which none is absent; sender and seq fit a byte (R15.10)
   unfoldable pub receiveFields : Bool
   receiveFields =
       inSystem
@@ -101,14 +100,14 @@ module _ (n : ℕ) (line : List ℕ) where
       && (hex 16 (field 4 line)
       && hex 32 (payloadDigits line))))
 
-  -- "Act A announces at a unit, B hands a bundle of the table's day to a unit."
+  -- R15.8: a row of each act
   unfoldable pub isBroadcast : Bool
   isBroadcast = same (act line) (ascii "A") && broadcastFields
 
   unfoldable pub isReceive : Bool
   isReceive = same (act line) (ascii "B") && receiveFields
 
-  -- the row that a line gives. Unread is "A step row over 120 bytes, or not of this shape, or with a unit n or above, sender or number above 255"
+  -- R15.10: the row that a line gives, if it has at most 120 bytes and is of one act or the other; any other line is unread
   unfoldable pub rowIn : StepRow
   rowIn =
       cond (leb (length line) 120)

@@ -14,7 +14,7 @@ ghost use Rattle.text.specs.Text.{afterFields};
 ghost use Rattle.row.specs.Row.{tableNames, stepNames, tableIn, rowIn, broadcastFields, broadcastRow, receiveFields, receiveRow};
 ghost use Rattle.row.specs.RowParts.{nodeIn, hexPayloadIn};
 
-// What happens at a node: document 01's acts A and B.
+// What happens at a node (R15.8): act A broadcasts a payload, act B receives a bundle.
 pub enum Step {
     Broadcast {
         payload: Payload,
@@ -33,7 +33,7 @@ pub enum StepRow {
     At { node: u8, step: Step },
 }
 
-// The table row: the configuration that it gives, with own number 0.
+// The table row (R15.6, but for the bound of 8 nodes): the configuration that it gives, with own number 0.
 pub enum ConfigRow {
     Good(Config),
     Bad,
@@ -45,14 +45,14 @@ enum HexPayload {
     NotHex,
 }
 
-// Whether the line has the names of the table.
+// Whether the line has the names of the table, to the byte (R15.5).
 pub fn is_table_names(line: &[u8]) -> bool
     ensures { λ r. ⌜ r ≡ same (now (line .entry)) tableNames ⌝ }
 {
     text::same(line, b"units faults losses day")
 }
 
-// Whether the line has the names of the steps.
+// Whether the line has the names of the steps, to the byte (R15.5).
 pub fn is_step_names(line: &[u8]) -> bool
     ensures { λ r. ⌜ r ≡ same (now (line .entry)) stepNames ⌝ }
 {
@@ -91,8 +91,9 @@ pub fn read_table(line: &[u8]) -> ConfigRow
     ConfigRow::Good(config)
 }
 
-// The step that a row gives in a system of n nodes. The act is looked at first: after tests of the other
-// fields the compiler takes the steps for rare, and passes them on by way of memory.
+// The step that a row gives in a system of n nodes, or that it is unread (R15.8 to R15.10). The act is looked
+// at first: after tests of the other fields the compiler takes the steps for rare, and passes them on by way
+// of memory.
 pub fn read_row(n: u8, line: &[u8]) -> StepRow
     ensures { λ r. ⌜ r ≡ rowIn n (now (line .entry)) ⌝ }
 {

@@ -1,4 +1,4 @@
--- That playing byte by byte prints what document 01 says of the whole input, and the laws that the proofs of the functions go by.
+-- That playing byte by byte prints what specs/Run.antt says of the whole input, and the laws that the proofs of the functions go by.
 pub mod RecordsByCalls
 pub mod ByLines
 pub mod LineByLine

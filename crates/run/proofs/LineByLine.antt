@@ -1,5 +1,5 @@
--- Line by line the program prints what document 01 says of the lines: the first three decide whether there is a table, and after them each row finds
--- the records that the calls before it left.
+-- Line by line the program prints what specs/Run.antt says of the lines: the first three decide whether there is a table, and after them each row finds the
+-- records that the calls before it left.
 -- Assumes nothing.
 use mathlib.Core.Path.{_≡_, refl, sym, ap, ap₂, _∙_, fun-ext}
 use mathlib.Core.Bool.{Bool, true, false, cond, _&&_}

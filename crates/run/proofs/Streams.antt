@@ -1,5 +1,5 @@
--- What is printed for an input that comes in pieces is what document 01 says of the whole of it: the claims of specs/Stream.antt. Byte by byte is line by
--- line, and that is document 01's text; and what is kept between two pieces stands for what is known.
+-- What is printed for an input that comes in pieces is what specs/Run.antt says of the whole of it: the claims of specs/Stream.antt. Byte by byte is line by
+-- line, and that is the text of `printed`; and what is kept between two pieces stands for what is known.
 -- Assumes nothing.
 use mathlib.Core.Path.{_≡_, refl, sym, ap, ap₂, _∙_}
 use mathlib.Core.List.{List, [], _∷_, _++_, append-assoc}

@@ -1,5 +1,5 @@
--- Document 01, "The run program": what is printed for an input, whatever it is. A run is a list of demand 3's calls: openings, then a call for each
--- step that is read. The paper's unit is a node here.
+-- What is printed for an input, whatever it is: sections 15 and 16 of docs/RULES.md. A run is a list of calls, as section 14 has them: openings, then a call
+-- for each step that is read. A unit is a node here.
 -- Assumes nothing.
 use mathlib.Core.Bool.{cond, _&&_}
 use mathlib.Core.List.{List, [], _∷_, _++_}
@@ -20,30 +20,30 @@ use Rattle.summary.specs.Summary.{summaryText}
 use Rattle.stages.specs.Stages.{rowNames}
 
 module _ (config : Config) where
-  -- What is printed for a row, after the calls before it: a step at a node finds the records that they left there.
+  -- R16.2, R16.3: what is printed for a row, after the calls before it. A step at a node finds the records that they left there.
   abbrev pub rowTextAfter : (before : Trace Call) (ordinal : ℕ) (row : StepRow) → List ℕ
   rowTextAfter before ordinal Unread = unreadText ordinal
   rowTextAfter before ordinal (At node step) =
       stepText ordinal node (actOf step) (answerOf (configAt (systemOf config) node) step (buffer (systemOf config) before node))
 
-  -- The rows, of which the first has this ordinal. It counts "from 1", the unread rows too.
+  -- The rows, of which the first has this ordinal. Unread rows are counted too.
   unfoldable pub rowsText : (before : Trace Call) (ordinal : ℕ) (rows : List (List ℕ)) → List ℕ
   rowsText before ordinal [] = []
   rowsText before ordinal (line ∷ others) =
       rowTextAfter before ordinal (rowIn (config .n) line) ++ rowsText (withRow config before (rowIn (config .n) line)) (suc ordinal) others
 
-  -- "Both printed names lines come even if no row follows them." The last rows count the nodes that were answered delivered.
+  -- R16.1: both names lines, with rows or without. The ordinal is counted from 1, and the last rows count the nodes that were answered delivered (R16.4).
   unfoldable pub runText : (rows : List (List ℕ)) → List ℕ
   runText rows =
       rowNames
       ++ (rowsText (openings config (config .n)) 1 rows
       ++ summaryText config (deliveredCount config (callsOf config rows)))
 
--- "A wrong names line, a bad table row .. or more than 8 units"
+-- R15.7: all that is printed where there is no table
 unfoldable pub noTable : List ℕ
 noTable = ascii "no table\n"
 
--- "names line, table row, names line, steps"
+-- R15.1, R15.5, R15.6: names, the table, names and steps; or else there is no table
 unfoldable pub linesText : (lines : List (List ℕ)) → List ℕ
 linesText [] = noTable
 linesText (names ∷ []) = noTable
@@ -51,6 +51,6 @@ linesText (names ∷ table ∷ []) = noTable
 linesText (names ∷ table ∷ others ∷ rows) =
     cond (same names tableNames && (isTable table && (leb (configIn table .n) mostNodes && same others stepNames))) (runText (configIn table) rows) noTable
 
--- "from standard input": all that the program prints
+-- all that the program prints for its input
 unfoldable pub printed : (input : List ℕ) → List ℕ
 printed input = linesText (lines input)

@@ -1,6 +1,6 @@
--- The end of the input, and the run program as it is given its input in pieces. That pieces and end together print what specs/Run.antt says of the whole
--- input are the theorems `Streams` and `InPieces`, proved in proofs/Streams.antt. So a reader who believes specs/Run.antt need hold beside document 01 no more of
--- what stands here than what `InPieces` is about: `printedInPieces` and `usedInput`.
+-- The end of the input, and the run program as it is given its input in pieces (R15.11). That pieces and end together print what specs/Run.antt says of the
+-- whole input are the theorems `Streams` and `InPieces`, proved in proofs/Streams.antt. So a reader who believes specs/Run.antt need hold beside the rules no
+-- more of what stands here than what `InPieces` is about: `printedInPieces` and `usedInput`.
 -- Assumes nothing.
 use mathlib.Core.Path.{_≡_}
 use mathlib.Core.Bool.{cond}
@@ -25,7 +25,7 @@ fresh records = record { state = startState; line = []; records = records }
 
 -- ---- the end of the input
 
--- the last rows, if there was a table
+-- the last rows, if there was a table, and else that there was none (R15.7)
 abbrev pub closingTextAt : (state : State) (stage : Stage) (records : List ℕ) → List ℕ
 closingTextAt state TableNames records = noTable
 closingTextAt state TableRow records = noTable
@@ -36,7 +36,7 @@ closingTextAt state NoTable records = noTable
 unfoldable pub closingText : (state : State) (records : List ℕ) → List ℕ
 closingText state records = closingTextAt state (state .stage) records
 
--- at the end of the input the last line ends too, if there is something of it
+-- R15.3: at the end of the input the last line ends too, if there is something of it
 unfoldable pub finishedText : (p : Progress) → List ℕ
 finishedText p =
     cond (empty (p .line)) (closingText (p .state) (p .records)) (lineEndText p ++ closingText (afterLineEnd p .state) (afterLineEnd p .records))
@@ -69,9 +69,9 @@ module _ (run : Run) (line records piece : List ℕ) where
   unfoldable pub pieceText : List ℕ
   pieceText = bytesText (progress run line records) (take (usedOfPiece piece) piece)
 
--- ---- what is printed is what document 01 says
+-- ---- what is printed is what specs/Run.antt says
 
--- What is printed for an input that comes byte by byte is what document 01 says of the whole of it. The ordinal of a row is counted in 64 bits.
+-- R15.11: what is printed for an input that comes byte by byte is what `printed` says of the whole of it. The ordinal of a row is counted in 64 bits.
 abbrev pub Streams : Type 0
 Streams =
     (records input : List ℕ) → length records ≡ recordsSpace → length input < 2 ^ 64
@@ -90,7 +90,7 @@ unfoldable pub usedInput : (pieces : List (List ℕ)) → List ℕ
 usedInput [] = []
 usedInput (piece ∷ others) = take (usedOfPiece piece) piece ++ usedInput others
 
--- So what the program prints from `start` on, whatever pieces its input comes in, is what document 01 says of the whole of it.
+-- R15.11: so what the program prints from `start` on, whatever pieces its input comes in, is what `printed` says of the whole of it.
 abbrev pub InPieces : Type 0
 InPieces =
     (line records : List ℕ) (pieces : List (List ℕ)) → length records ≡ recordsSpace → length (usedInput pieces) < 2 ^ 64

@@ -1,9 +1,10 @@
-// A run file, played as it comes in: what document 01's run program does between reading and writing.
+// A run file, played as it comes in: what the run program (sections 15 and 16 of docs/RULES.md) does between
+// reading and writing.
 //
-// The input is given in pieces of any length. A call uses at most the first 16,384 bytes of a piece and says
-// how many, and writes what is to be printed for them to a buffer given by the caller. All else that is kept
-// from one piece to the next is a small struct, the line that has not ended yet and the records of eight
-// nodes: nothing grows with the input.
+// The input is given in pieces of any length (R15.11). A call uses at most the first 16,384 bytes of a piece
+// and says how many, and writes what is to be printed for them to a buffer given by the caller. All else that
+// is kept from one piece to the next is a small struct, the line that has not ended yet and the records of
+// eight nodes: nothing grows with the input.
 use lines::Run;
 use nodes::RECORDS_SPACE;
 use stages::LINE_SPACE;

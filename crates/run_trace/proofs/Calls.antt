@@ -1,5 +1,5 @@
--- A run is a list of demand 3's calls: the laws of specs/Calls.antt. A step's answer is read off the outcome of its call; after the openings every
--- node was called, so that an opening comes first and only there.
+-- A run is a list of calls as RULES section 14 has them: the laws of specs/Calls.antt. A step's answer is read off the outcome of its call; after the openings
+-- every node was called, so that an opening comes first and only there.
 -- Assumes nothing.
 use mathlib.Core.Path.{_≡_, refl, sym, ap, _∙_}
 use mathlib.Core.Bool.{Bool, true, false, not, cond, _&&_, _||_, true≢false}
@@ -48,7 +48,7 @@ use Rattle.step.specs.Step.{stepBundle, blankOut, callOf, answerOf}
 use Rattle.config.specs.declared.Slot.{Slot}
 use Rattle.config.proofs.Laws.{same-slot-self}
 use Rattle.run_trace.specs.RunTrace.{systemOf, openings, withRow, withRows, callsOf}
-use Rattle.run_trace.specs.Calls.{isAnnounced, IsCall, RowIsCall, UnreadIsNone, Sized, RunRecords, callsAt, CallsAtSame, OpensFirstAndOnce, AllUnforged, RunOpensFirst, RunLawful}
+use Rattle.run_trace.specs.Calls.{isAnnounced, IsCall, RowIsCall, UnreadIsNone, Sized, RunRecords, callsAt, CallsAtSame, EachOpensFirstAndOnce, AllUnforged, RunOpensFirst, RunLawful}
 use Rattle.run_trace.proofs.Openings.{step-leaves, opened-buffer}
 
 -- ---- a step is a call
@@ -248,7 +248,7 @@ module _ (s : System) where
       go true e earlier = refl
       go false e earlier = earlier (lt-of-le-ne (omega arith) (eqb-false u k e))
 
-  openings-first : (k : ℕ) → OpensFirstAndOnce s (openings (s .shared) k)
+  openings-first : (k : ℕ) → EachOpensFirstAndOnce s (openings (s .shared) k)
   unfolding openings opens
   openings-first zero = tt
   openings-first (suc k) = (openings-first k, sym (ap not (uncalled k k (le-refl k))))
@@ -271,7 +271,7 @@ module _ (s : System) where
 
   -- a list in which every node of the table was called, and opened first
   pub record Begun (list : Trace Call) : Type 0 where
-    pub first : OpensFirstAndOnce s list
+    pub first : EachOpensFirstAndOnce s list
     pub within : Within list
     pub everywhere : (u : ℕ) → u < s .shared .n → called s list u ≡ true
 
@@ -306,20 +306,20 @@ module _ (s : System) where
       rows
 
   -- a list that opens first does so at the nodes of any set
-  set-first : (set : NodeSet) (list : Trace Call) → OpensFirstAndOnce s list → OpensFirstAndOnce s (callsAt set list)
+  set-first : (set : NodeSet) (list : Trace Call) → EachOpensFirstAndOnce s list → EachOpensFirstAndOnce s (callsAt set list)
   unfolding callsAt
   set-first set start first = tt
   set-first set (earlier then v calls made) first = go (set v) refl (set-first set earlier (first .0))
     where
-      go : (b : Bool) → set v ≡ b → OpensFirstAndOnce s (callsAt set earlier)
-          → OpensFirstAndOnce s (cond b (callsAt set earlier then v calls made) (callsAt set earlier))
+      go : (b : Bool) → set v ≡ b → EachOpensFirstAndOnce s (callsAt set earlier)
+          → EachOpensFirstAndOnce s (cond b (callsAt set earlier then v calls made) (callsAt set earlier))
       go true e below =
           let (records, evers, number) = calls-at-same s set earlier v e in
           (below, rw (records, evers (λ node made records. true)) (first .1))
       go false e below = below
 
   -- a list of calls at correct nodes that opens first and forges nothing is lawful
-  first-lawful : Sized s → (list : Trace Call) → OpensFirstAndOnce s (callsAt (correct s) list) → AllUnforged s (callsAt (correct s) list)
+  first-lawful : Sized s → (list : Trace Call) → EachOpensFirstAndOnce s (callsAt (correct s) list) → AllUnforged s (callsAt (correct s) list)
       → Lawful s (callsAt (correct s) list)
   unfolding callsAt configAt withOwn recordsSize
   first-lawful sized start first unforged = tt
@@ -329,8 +329,8 @@ module _ (s : System) where
       size-at fine = sized v (correct-below s v fine)
 
       go : (b : Bool) → correct s v ≡ b
-          → (OpensFirstAndOnce s (callsAt (correct s) earlier) → AllUnforged s (callsAt (correct s) earlier) → Lawful s (callsAt (correct s) earlier))
-          → OpensFirstAndOnce s (cond b (callsAt (correct s) earlier then v calls made) (callsAt (correct s) earlier))
+          → (EachOpensFirstAndOnce s (callsAt (correct s) earlier) → AllUnforged s (callsAt (correct s) earlier) → Lawful s (callsAt (correct s) earlier))
+          → EachOpensFirstAndOnce s (cond b (callsAt (correct s) earlier then v calls made) (callsAt (correct s) earlier))
           → AllUnforged s (cond b (callsAt (correct s) earlier then v calls made) (callsAt (correct s) earlier))
           → Lawful s (cond b (callsAt (correct s) earlier then v calls made) (callsAt (correct s) earlier))
       go true e below (firsts, first) (fines, fine) = (below firsts fines, e, size-at e, first, fine)

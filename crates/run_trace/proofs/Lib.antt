@@ -1,4 +1,4 @@
--- A run is a list of demand 3's calls.
+-- A run is a list of calls as RULES section 14 has them.
 pub mod Openings
 pub mod Calls
 pub mod Shown

@@ -12,12 +12,12 @@ use Rattle.system.specs.Demand3.{Call, System, configAt, deliversIn, ever}
 use Rattle.system.proofs.Shown.{shown-answered}
 use Rattle.system.specs.Order.{InOrder, Orderly}
 use Rattle.run_trace.specs.RunTrace.{systemOf, callsOf, deliveredCount}
-use Rattle.run_trace.specs.Calls.{Sized, OpensFirstAndOnce, DeliveredAreShown, showsAfter, shownAfter}
+use Rattle.run_trace.specs.Calls.{Sized, EachOpensFirstAndOnce, DeliveredAreShown, showsAfter, shownAfter}
 use Rattle.run_trace.proofs.Openings.{good-at}
 use Rattle.run_trace.proofs.Calls.{Within, run-begun}
 
 -- a list that opens first, at nodes of the table, is in order
-in-order : (s : System) → Sized s → (list : Trace Call) → OpensFirstAndOnce s list → Within s list → InOrder s list
+in-order : (s : System) → Sized s → (list : Trace Call) → EachOpensFirstAndOnce s list → Within s list → InOrder s list
 unfolding configAt withOwn recordsSize
 in-order s sized start first within = tt
 in-order s sized (earlier then u calls made) first within =

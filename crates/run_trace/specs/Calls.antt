@@ -1,6 +1,7 @@
--- A run as a list of demand 3's calls. Each step is the call of the list at its node: it leaves the records that demand 3 has that call leave, and its answer says
--- whether it announces, delivers or sends as demand 3 has it. Each node opens the day first and once only, and so the
--- calls of a run at the correct nodes are a list of demand 3, where no signature of a correct node is forged. These laws are proved in proofs/Calls.antt, the last in proofs/Shown.antt.
+-- A run as a list of the calls of demand 3, the claim of RULES section 14. Each step is the call that it stands for (R15.8): it leaves the records that this
+-- call leaves, and its answer says whether the call announces, delivers or sends. A run opens each node first and once (R15.2, R14.4). So its calls at the
+-- correct nodes are lawful, where buffers have the right length and no signature of a correct node is forged (R14.6). Demand 3 asks besides for a good
+-- configuration and at most t faulty nodes. These laws are proved in proofs/Calls.antt, the last in proofs/Shown.antt.
 -- Assumes nothing.
 use mathlib.Core.Path.{_≡_}
 use mathlib.Core.Bool.{Bool, true, false, not, cond, _&&_}
@@ -56,9 +57,9 @@ module _ (s : System) (u : ℕ) (step : Step) (records : List ℕ) where
   abbrev pub reply : Outcome (answers.Answer × ℕ)
   reply = answerOf (withOwn (s .shared) u) step records
 
-  -- it leaves the records that the call leaves, and sends where the call sends;
-  -- it announces where the call announces, with some number;
-  -- it delivers where the call delivers, in the slot and with the payload that its row has
+  -- it leaves the records that the call leaves, and sends where the call sends (R14.9);
+  -- it announces where the call announces, with some number (R14.7);
+  -- it delivers where the call delivers, in the slot and with the payload that its row has (R14.8)
   pub record IsCall : Type 0 where
     pub leaves : recordsBy (withOwn (s .shared) u) step records ≡ recordsAfter s u call records
     pub sent : passes answers.sends reply ≡ sends s u call records
@@ -69,11 +70,11 @@ module _ (s : System) (u : ℕ) (step : Step) (records : List ℕ) where
     pub delivered-this : (slot : Slot) (payload : List ℕ)
         → delivers s slot payload u call records ≡ (deliversIn s slot u call records && same (stepPayload step) payload)
 
--- every step of a run, at any node and on any records, is one call of demand 3's list
+-- R15.8: every step, at any node and on any records, does what the call does that it stands for
 abbrev pub RowIsCall : Type 0
 RowIsCall = (s : System) (u : ℕ) (step : Step) (records : List ℕ) → IsCall s u step records
 
--- a row that is not read makes no call
+-- R15.10: a row that is not read makes no call
 abbrev pub UnreadIsNone : Type 0
 UnreadIsNone =
     (config : Config) (before : Trace Call) (line : List ℕ) (others : List (List ℕ)) → rowIn (config .n) line ≡ Unread
@@ -85,7 +86,7 @@ UnreadIsNone =
 abbrev pub Sized : System → Type 0
 Sized s = (u : ℕ) → u < s .shared .n → length (s .buffers u) ≡ recordsSize (s .shared)
 
--- a run leaves the same records whatever the buffers held before
+-- a run leaves the same records whatever the buffers held before (R14.5)
 abbrev pub RunRecords : Type 0
 RunRecords =
     (s : System) (rows : List (List ℕ)) → good (s .shared) ≡ true → Sized s
@@ -93,7 +94,7 @@ RunRecords =
 
 -- ---- a run is a list of demand 3
 
--- the calls at the nodes of a set, and no others; a checker of recordings leaves out the rows at faulty nodes (document 02, Job 13)
+-- the calls at the nodes of a set, and no others: a list of demand 3 has the calls at correct nodes alone (R14.3), and a run may have rows at any node
 unfoldable pub callsAt : (set : NodeSet) (list : Trace Call) → Trace Call
 callsAt set start = start
 callsAt set (earlier then u calls call) = cond (set u) (callsAt set earlier then u calls call) (callsAt set earlier)
@@ -107,23 +108,23 @@ CallsAtSame =
     × ((test : ℕ → Call → List ℕ → Bool) → times s test (callsAt set list) u ≡ times s test list u)
 
 module _ (s : System) where
-  -- "each unit called opens the day first, and once only", as `Lawful` of demand 3 has it
-  abbrev pub OpensFirstAndOnce : Trace Call → Type 0
-  OpensFirstAndOnce start = Unit
-  OpensFirstAndOnce (earlier then u calls call) = OpensFirstAndOnce earlier × (opens s u call (buffer s earlier u) ≡ not (called s earlier u))
+  -- R14.4, as `Lawful` asks it: a call is an opening where no call was at that node before, and only there
+  abbrev pub EachOpensFirstAndOnce : Trace Call → Type 0
+  EachOpensFirstAndOnce start = Unit
+  EachOpensFirstAndOnce (earlier then u calls call) = EachOpensFirstAndOnce earlier × (opens s u call (buffer s earlier u) ≡ not (called s earlier u))
 
-  -- what faulty nodes cannot do, at each call
+  -- R14.6, at each call
   abbrev pub AllUnforged : Trace Call → Type 0
   AllUnforged start = Unit
   AllUnforged (earlier then u calls call) = AllUnforged earlier × Unforged s earlier u call
 
--- a run opens each node first, and so do its calls at the nodes of any set
+-- a run opens each node first and once, and so do its calls at the nodes of any set
 abbrev pub RunOpensFirst : Type 0
 RunOpensFirst =
     (s : System) (rows : List (List ℕ))
-    → OpensFirstAndOnce s (callsOf (s .shared) rows) × ((set : NodeSet) → OpensFirstAndOnce s (callsAt set (callsOf (s .shared) rows)))
+    → EachOpensFirstAndOnce s (callsOf (s .shared) rows) × ((set : NodeSet) → EachOpensFirstAndOnce s (callsAt set (callsOf (s .shared) rows)))
 
--- so the calls of a run at the correct nodes are lawful where no signature of a correct node is forged
+-- so the calls of a run at the correct nodes are lawful, where buffers have the right length and no signature of a correct node is forged
 abbrev pub RunLawful : Type 0
 RunLawful =
     (s : System) (rows : List (List ℕ)) → Sized s → AllUnforged s (callsAt (correct s) (callsOf (s .shared) rows))
@@ -139,7 +140,7 @@ showsAfter config list sender seq node =
 unfoldable pub shownAfter : (config : Config) (list : Trace Call) (sender seq : ℕ) → ℕ
 shownAfter config list sender seq = count (showsAfter config list sender seq) (config .n)
 
--- the nodes that the last rows count, answered delivered by some call of the run, are those that show a payload at its end, whoever signed what
+-- R16.4, R9.3: the nodes that the last rows count, answered delivered by some call of the run, are those that show a payload at its end, whoever signed what
 abbrev pub DeliveredAreShown : Type 0
 DeliveredAreShown =
     (config : Config) (rows : List (List ℕ)) → good config ≡ true → config .day < 2 ^ 32

@@ -1,4 +1,4 @@
--- The list of demand 3's calls that a run makes: openings, then a call for each step row that is read. Document 01's unit is a node here.
+-- The list of calls that a run makes: openings, then a call for each step row that is read. They are the calls of demand 3, the claim of RULES section 14.
 -- Assumes nothing.
 use mathlib.Core.Bool.{false}
 use mathlib.Core.List.{List, [], _∷_}
@@ -19,12 +19,12 @@ unfoldable pub systemOf : Config → System
 systemOf config = record { shared = config; faulty = λ u. false; buffers = λ u. replicate (recordsSize config) 0 }
 
 module _ (config : Config) where
-  -- "each opens the day first"
+  -- R15.2: the first nodes, so many, open the day
   unfoldable pub openings : (count : ℕ) → Trace Call
   openings zero = start
   openings (suc n) = openings n then n calls Open
 
-  -- the calls before a row, and then the row's own; an unread row makes none
+  -- R15.10: the calls before a row, and then the row's own; an unread row makes none
   abbrev pub withRow : (before : Trace Call) (row : StepRow) → Trace Call
   withRow before Unread = before
   withRow before (At node step) = before then node calls callOf config step
@@ -37,7 +37,6 @@ module _ (config : Config) where
   unfoldable pub callsOf : (rows : List (List ℕ)) → Trace Call
   callsOf rows = withRows (openings (config .n)) rows
 
-  -- The printed column `units`: how many nodes have delivered the slot, "whichever body", as demand 3 has it: by some call on the list that was
-  -- answered delivered.
+  -- R16.4, the printed column `units`: how many nodes have delivered the slot, whatever payload, by some call of the list that was answered delivered (R14.8).
   unfoldable pub deliveredCount : (list : Trace Call) (sender seq : ℕ) → ℕ
   deliveredCount list sender seq = count (ever (systemOf config) (deliversIn (systemOf config) (slotOfDay config sender seq)) list) (config .n)

@@ -1,1 +1,1 @@
-// A run as a list of demand 3's calls: definitions and theorems alone, in specs/ and proofs/.
+// A run as a list of calls, as section 14 of docs/RULES.md has them: definitions and theorems alone.

@@ -1,4 +1,4 @@
--- A run file line by line: what is known after a line that has ended, what it does to the records, and what is printed for it. It goes by stages: what
+-- A run file line by line (R15.1): what is known after a line that has ended, what it does to the records, and what is printed for it. It goes by stages: what
 -- the line is to be.
 -- Assumes nothing.
 use mathlib.Core.Bool.{cond}
@@ -16,11 +16,11 @@ use Rattle.stages.specs.declared.State.{State}
 use Rattle.stages.specs.declared.Stage.{Stage}
 use Rattle.stages.specs.declared.Stage.the-variants.{TableNames, TableRow, StepNames, Steps, NoTable}
 
--- So many bytes of a line are enough to know what it does: one more than a row may have.
+-- So many bytes of a line are enough to know what it does: one more than a row may have (R15.10).
 abbrev pub lineSpace : ℕ
 lineSpace = 121
 
--- the names line that is printed above the step rows
+-- R16.1: the names line that is printed above the step rows
 abbrev pub rowNames : List ℕ
 rowNames = ascii "line act unit answer reason count\n"
 
@@ -34,6 +34,7 @@ module _ (state : State) where
   unfoldable pub withStage : (stage : Stage) → State
   withStage stage = record { stage = stage; config = state .config; ordinal = state .ordinal }
 
+  -- R15.6: a good table of more than 8 nodes is none (R15.7)
   abbrev pub afterTableRow : (table : ConfigRow) → State
   afterTableRow Bad = withStage NoTable
   afterTableRow (Good config) =
@@ -43,7 +44,7 @@ module _ (state : State) where
   unfoldable pub afterStepNames : State
   afterStepNames = record { stage = Steps; config = state .config; ordinal = 1 }
 
-  -- after a step row, read or not; its ordinal is counted in 64 bits
+  -- after a step row, read or not (R16.3); its ordinal is counted in 64 bits
   unfoldable pub afterStepRow : State
   afterStepRow = record { stage = Steps; config = state .config; ordinal = (state .ordinal + 1) % 2 ^ 64 }
 
@@ -57,7 +58,7 @@ module _ (state : State) where
   unfoldable pub afterLine : (line : List ℕ) → State
   afterLine line = afterLineAt (state .stage) line
 
-  -- ---- what it does to the records
+  -- ---- what it does to the records: the second names line opens the day at every node (R15.2), and a step row is played
 
   abbrev pub lineRecordsAt : (stage : Stage) (line records : List ℕ) → List ℕ
   lineRecordsAt TableNames line records = records

@@ -1,5 +1,6 @@
-// A run file line by line: what a line does once it has ended, and what is printed for it. The first line is
-// to be a names line, the second the table row, the third another names line, and all others are step rows.
+// A run file line by line (R15.1): what a line does once it has ended, and what is printed for it. The first
+// line is to be a names line, the second the table row, the third another names line, and all others are step
+// rows.
 use config::Config;
 use nodes::RECORDS_SPACE;
 use row::ConfigRow;
@@ -13,11 +14,11 @@ ghost use Rattle.step.specs.Step.{printedOver, printedEnd};
 ghost use Rattle.nodes.specs.Nodes.{playedNodes, openedRecords, rowRecords, rowText};
 ghost use Rattle.stages.specs.Stages.{startState, withStage, afterTableRow, afterStepNames, afterStepRow, afterLine, lineRecords, rowNames, lineText, readRecords, readText};
 
-// So many bytes of a line are enough to know what it does: one more than a row may have. A line that is
-// longer is wrong whatever follows.
+// So many bytes of a line are enough to know what it does: one more than a row may have (R15.10). A line that
+// is longer is wrong whatever follows.
 pub const LINE_SPACE: usize = 121;
 
-// What the next line is to be.
+// What the next line is to be; after a wrong one of the first three there is no table (R15.7).
 pub enum Stage {
     TableNames,
     TableRow,

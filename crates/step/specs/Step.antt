@@ -1,4 +1,4 @@
--- Document 01, "The run program": what a step of a run does at its node, and what is printed for it. A step is one call of demand 3's list.
+-- What a step of a run does at its node (R15.8), and what is printed for it (R16.2, R16.3). A step is one of the calls that RULES section 14 is about.
 -- Assumes nothing.
 use mathlib.Core.Path.{_≡_}
 use mathlib.Core.Bool.{Bool, cond}
@@ -31,7 +31,7 @@ blankOut = replicate bundleSize 0
 abbrev pub stepBundle : Config → (sender seq signers : ℕ) (payload : Payload) → List ℕ
 stepBundle config sender seq signers payload = bundleOf (headerOfDay config sender seq signers) (bytes payload)
 
--- "Act A announces at a unit, B hands a bundle of the table's day to a unit."
+-- R15.8: the call that a step stands for. Act A broadcasts, act B hands over a bundle of the configuration's day.
 unfoldable pub callOf : Config → Step → Call
 callOf config (step.Broadcast payload) = Broadcast (bytes payload) blankOut
 callOf config (step.Receive sender seq signers payload) = Receive (stepBundle config sender seq signers payload) blankOut
@@ -72,7 +72,7 @@ module _ (config : Config) where
   unfoldable pub recordsBy : Step → List ℕ → List ℕ
   recordsBy made records = recordsOver config blankOut made records
 
--- the paper's answer and count for each case, or the number of the refusal
+-- the answer and count that a program's answer stands for, or the number of the refusal
 abbrev pub answered : Answer → Outcome (protocol.Answer × ℕ)
 answered (answer.Broadcast announcement) = announcementOf announcement and-then λ seq. done (announced, announcementCount (Announced seq))
 answered (answer.Receive receipt) = receiptOf receipt
@@ -93,16 +93,16 @@ answerWord kept = ascii "kept"
 answerWord signed = ascii "signed"
 answerWord delivered = ascii "delivered"
 
--- "the answer's word or "refused", the refusal or 0, and the count"
+-- R16.2: the word of the answer, 0 and the count; or `refused`, the number of the reason and 0
 abbrev pub answerText : Outcome (protocol.Answer × ℕ) → List ℕ
 answerText (refused number) = ascii "refused " ++ (decimal number ++ ascii " 0\n")
 answerText (done reply) = answerWord (reply .0) ++ (ascii " 0 " ++ (decimal (reply .1) ++ ascii "\n"))
 
--- "A step that is read prints its place from 1, its act and unit,"
+-- R16.2: the line of a step that is read: its ordinal, its act, its node and its answer
 unfoldable pub stepText : ℕ → ℕ → List ℕ → Outcome (protocol.Answer × ℕ) → List ℕ
 stepText ordinal node act reply = decimal ordinal ++ (act ++ (decimal node ++ (ascii " " ++ answerText reply)))
 
--- "prints "L - - unread 0 0", L its place"
+-- R16.3: the line of a row that is not read
 unfoldable pub unreadText : ℕ → List ℕ
 unreadText ordinal = decimal ordinal ++ ascii " - - unread 0 0\n"
 

@@ -24,7 +24,7 @@ pub enum Answer {
     Receive(Receipt),
 }
 
-// Plays a step at the node of this configuration, over its records. What it sends is not looked at.
+// Plays a step at the node of this configuration, over its records (R15.8). What it sends is not looked at.
 pub fn play(config: Config, step: Step, records: &mut [u8]) -> Answer
     ensures { λ r. ⌜ Answers config step (now (records .entry)) r ⌝ }
     ensures { λ _. ⌜ now (records .exit) ≡ recordsBy config step (now (records .entry)) ⌝ }
@@ -64,8 +64,8 @@ pub fn call(config: Config, step: Step, records: &mut [u8], out: &mut [u8]) -> A
     }
 }
 
-// Prints a step's row over `out` from index `at` on, and answers where it ends. A buffer that has fewer than
-// ROW_SPACE bytes there stays as it is, whatever the row, and the answer is `at`.
+// Prints a step's row (R16.2) over `out` from index `at` on, and answers where it ends. A buffer that has
+// fewer than ROW_SPACE bytes there stays as it is, whatever the row, and the answer is `at`.
 pub fn print(ordinal: u64, node: u8, answer: Answer, at: usize, out: &mut [u8]) -> usize
     ensures { λ r. ⌜ r ≡ printedEnd at (stepText ordinal node (actBy answer) (answered answer)) (now (out .entry)) ⌝ }
     ensures { λ _. ⌜ now (out .exit) ≡ printedOver at (stepText ordinal node (actBy answer) (answered answer)) (now (out .entry)) ⌝ }
@@ -91,7 +91,7 @@ pub fn print(ordinal: u64, node: u8, answer: Answer, at: usize, out: &mut [u8]) 
     }
 }
 
-// Prints the row of a step that is not read, in the same way.
+// Prints the row of a step that is not read (R16.3), in the same way.
 pub fn print_unread(ordinal: u64, at: usize, out: &mut [u8]) -> usize
     ensures { λ r. ⌜ r ≡ printedEnd at (unreadText ordinal) (now (out .entry)) ⌝ }
     ensures { λ _. ⌜ now (out .exit) ≡ printedOver at (unreadText ordinal) (now (out .entry)) ⌝ }

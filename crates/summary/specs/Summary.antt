@@ -1,4 +1,4 @@
--- Document 01, "The run program", the last rows: for each slot that some node has delivered how many nodes did, and how many percent that is.
+-- The last rows of a run, R16.4 of docs/RULES.md: for each slot that some node has delivered how many nodes did, and how many percent that is.
 -- Assumes nothing.
 use mathlib.Core.Bool.{Bool, true, false, cond}
 use mathlib.Core.List.{List, [], _++_}
@@ -13,7 +13,7 @@ use Rattle.calls.specs.Showing.{delivered}
 use Rattle.text.specs.Text.{ascii, decimal, written}
 use Rattle.nodes.specs.Nodes.{playedNodes, recordsAt}
 
--- the names line above the rows
+-- R16.1: the names line above the rows
 abbrev pub slotNames : List ℕ
 slotNames = ascii "sender number units percent\n"
 
@@ -22,11 +22,11 @@ unfoldable pub rising : (f : ℕ → List ℕ) (n : ℕ) → List ℕ
 rising f zero = []
 rising f (suc n) = rising f n ++ f n
 
--- "100 × units / n with the fraction dropped"
+-- R16.4: how many hundredths of n nodes so many are, cut to a whole number
 unfoldable pub percent : (n delivered : ℕ) → ℕ
 percent n delivered = 100 * delivered / n
 
--- "list each slot that some unit has delivered: how many units did, whichever body, and" the percent
+-- R16.4: the row of a slot that some node has delivered, and none for any other slot
 unfoldable pub slotText : (n sender seq delivered : ℕ) → List ℕ
 slotText n sender seq delivered =
     cond (eqb delivered 0) []
@@ -35,14 +35,14 @@ slotText n sender seq delivered =
     ++ (decimal seq ++ (ascii " " ++ (decimal delivered ++ (ascii " " ++ (decimal (percent n delivered) ++ ascii "\n")))))))
 
 module _ (config : Config) where
-  -- "The last rows, by sender then number," where it is known of each slot how many nodes have delivered it
+  -- the rows of a sender by seq, and those of all senders, where `counts` says how many nodes have delivered a slot
   unfoldable pub senderText : (counts : (sender seq : ℕ) → ℕ) (sender : ℕ) → List ℕ
   senderText counts sender = rising (λ seq. slotText (config .n) sender seq (counts sender seq)) slots
 
   unfoldable pub slotsText : (counts : (sender seq : ℕ) → ℕ) → List ℕ
   slotsText counts = rising (senderText counts) (config .n)
 
-  -- with the names line, which is there "even if no row follows"
+  -- R16.1: with the names line, which is there without rows too
   unfoldable pub summaryText : (counts : (sender seq : ℕ) → ℕ) → List ℕ
   summaryText counts = slotNames ++ slotsText counts
 

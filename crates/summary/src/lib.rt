@@ -1,4 +1,4 @@
-// The last rows of a run: each slot that some node has delivered, with how many nodes did and how many
+// The last rows of a run (R16.4): each slot that some node has delivered, with how many nodes did and how many
 // percent of all nodes that is.
 use config::Config;
 use config::SLOTS;
@@ -19,7 +19,7 @@ const ROW_SPACE: usize = 84;
 // Room for the names line and for the rows of as many senders as a byte can count.
 pub const SPACE: usize = 28 + ROW_SPACE * (SLOTS as usize) * 256;
 
-// The percent of n nodes that so many are, with the fraction dropped; 0 of none.
+// The percent of n nodes that so many are, cut to a whole number (R16.4); 0 of none.
 pub fn percent(n: u8, delivered: u8) -> u64
     ensures { λ r. ⌜ r ≡ percentOf n delivered ⌝ }
 {
@@ -29,8 +29,8 @@ pub fn percent(n: u8, delivered: u8) -> u64
     100 * (delivered as u64) / (n as u64)
 }
 
-// Prints the names line and the rows over `out` from index `at` on, and answers where they end. A buffer
-// that has fewer than SPACE bytes there stays as it is, whatever the rows, and the answer is `at`.
+// Prints the names line (R16.1) and the rows over `out` from index `at` on, and answers where they end. A
+// buffer that has fewer than SPACE bytes there stays as it is, whatever the rows, and the answer is `at`.
 pub fn print(config: Config, records: &[u8; RECORDS_SPACE], at: usize, out: &mut [u8]) -> usize
     ensures { λ r. ⌜ r ≡ summaryEnd at (summaryText config (shownCount config (now (records .entry)))) (now (out .entry)) ⌝ }
     ensures { λ _. ⌜ now (out .exit) ≡ summaryOver at (summaryText config (shownCount config (now (records .entry)))) (now (out .entry)) ⌝ }

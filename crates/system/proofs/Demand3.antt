@@ -1,5 +1,5 @@
--- Demand 3, slot by slot and as it stands, from the theorem on values: the claims on a list of calls are those on its acts, slot by slot. In a slot that is out of range no call
--- delivers, sends or announces.
+-- Demand 3, the claim of RULES section 14, slot by slot and as it stands, from the theorem on values: the claims on a list of calls are those on its acts, slot
+-- by slot. In a slot that is out of range no call delivers, sends or announces.
 -- Assumes nothing.
 use mathlib.Core.Path.{_≡_, refl, sym, ap, _∙_, subst}
 use mathlib.Core.Logic.{_⊎_, inl, inr}

@@ -1,5 +1,5 @@
--- The seven lines of the play of document 01, by one test computed over the list: the answer that a contract leaves has the line's row, and an
--- answer that the contract allows is that one.
+-- The seven lines of the first run, by one test computed over the list: the answer that a contract leaves has the line's row, and an answer that the contract
+-- allows is that one.
 -- Assumes nothing.
 use mathlib.Core.Path.{_≡_, refl, sym, ap, _∙_}
 use mathlib.Core.Bool.{Bool, true, false, false≢true}

@@ -1,5 +1,6 @@
--- What the nodes show is what they delivered: the claims of specs/Shown.antt. After a lawful list the slot's bytes at a node that was called are the
--- record that the acts leave, and that record is delivered with a payload exactly if the payload was delivered. From proofs/Simulation.antt, and the laws of showing and of values.
+-- What the nodes show is what they delivered: the claims of specs/Shown.antt. After a list in order the slot's bytes at a node that was called are the record
+-- that the acts leave, and that record is delivered with a payload exactly if the payload was delivered. From proofs/Simulation.antt, and the laws of showing
+-- and of values.
 -- Assumes nothing.
 use mathlib.Core.Path.{_≡_, refl, sym, ap, _∙_, subst}
 use mathlib.Core.Bool.{Bool, true, false, true≢false, and-eq-true-iff}

@@ -1,4 +1,4 @@
--- That delivery slot by slot says more than demand 3: the list of specs/SlotBySlot.antt, computed.
+-- That delivery slot by slot (R14.18) says more than R14.17: the list of specs/SlotBySlot.antt, computed.
 -- Assumes nothing.
 use mathlib.Core.Path.{_≡_, refl}
 use mathlib.Core.Bool.{Bool, true}

@@ -23,7 +23,7 @@ use Rattle.system.specs.Tight.{LawfulBy, RightLength, OpensFirstAndOnce,
 use Rattle.system.proofs.Computing.{calls-compute}
 use Rattle.system.proofs.ComputedTests.{given-before, unforged-now, unforged-now-says, unforged-test, lawful-test, lawful-says, sent-test, sent-says}
 
--- all that is asked is what demand 3 asks
+-- with each part as `Lawful` asks it, the list is lawful
 pub asks-all : AsksAll
 asks-all s start lawful = tt
 asks-all s (earlier then node calls call) (before, fine, sized, opening, genuine) = (asks-all s earlier before, fine, sized, opening, genuine)

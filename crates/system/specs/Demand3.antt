@@ -1,6 +1,6 @@
--- Demand 3: one claim about a whole list of calls, at all correct nodes together. What document 01 says of such a list under "The list in demand 3"
--- is a definition here, read off what the calls' own contracts cite: their answers, and the records and outgoing bytes that they leave.
--- A node is named by its own number.
+-- Demand 3, the claim of section 14 of docs/RULES.md: one claim about a whole list of calls, at all correct nodes together. `Assumed` is R14.1 to R14.6, and
+-- `Concluded` R14.13 to R14.17; R14.7 to R14.12 say what their words mean. All is read off what the contracts of the calls cite: the answers, and the records
+-- and outgoing bytes that a call leaves. A node is named by its own number.
 -- It is proved in proofs/Demand3.antt.
 -- Assumes nothing.
 use mathlib.Core.Path.{_≡_}
@@ -27,15 +27,15 @@ use Rattle.calls.specs.Open.{openRecords}
 use Rattle.calls.specs.Broadcast as calls-broadcast
 use Rattle.calls.specs.Receive as calls-receive
 
--- Opening a day, broadcasting a payload and receiving a bundle, with the outgoing bytes given by the caller. Payloads, bundles and outgoing bytes may
--- be any, of any length.
+-- R14.3: opening a day, broadcasting a payload and receiving a bundle, with what the caller gives for outgoing bytes. The three byte strings may have any
+-- content and any length.
 pub data Call : Type 0 where
   Open : Call
   Broadcast : (payload out : List ℕ) → Call
   Receive : (bundle out : List ℕ) → Call
 
--- The nodes share one configuration but for their own numbers; the own number that stands in `shared` is not used. Some nodes are faulty. Each node
--- has a buffer of records, with any bytes in it before the day is opened.
+-- R14.1, R14.2, R14.5: the nodes share one configuration but for their own numbers; the own number that stands in `shared` is not used. Some nodes are
+-- faulty. Each node has a buffer of records, with any bytes in it before the day is opened.
 pub record System : Type 0 where
   pub shared : Config
   pub faulty : NodeSet
@@ -53,11 +53,11 @@ module _ (s : System) where
   unfoldable pub correct : NodeSet
   correct node = ltb node (s .shared .n) && not (s .faulty node)
 
-  -- the number of correct nodes, which the paper calls c
+  -- R14.1: the number of correct nodes, c
   unfoldable pub correctCount : ℕ
   correctCount = s .shared .n - count (s .faulty) (s .shared .n)
 
-  -- the set has at least c - d correct nodes, each counted once
+  -- R14.12: the set has at least c - d correct nodes, each counted once
   abbrev pub NearlyAll : NodeSet → Type 0
   NearlyAll p = correctCount - s .shared .d ≤ count (both correct p) (s .shared .n)
 
@@ -80,8 +80,8 @@ module _ (s : System) where
   opens node (Broadcast payload out) records = false
   opens node (Receive bundle out) records = false
 
-  -- The node announces in a slot when a broadcast is answered announced. The slot is the node's own with the number answered. It announces this payload
-  -- there when the payload broadcast is this one.
+  -- R14.7: the node announces in a slot when a broadcast is answered announced. The slot is the node's own with the number answered. It announces this
+  -- payload there when the payload broadcast is this one.
   unfoldable pub announcesIn : (slot : Slot) (node : ℕ) (call : Call) (records : List ℕ) → Bool
   announcesIn slot node Open records = false
   announcesIn slot node (Broadcast given out) records =
@@ -93,7 +93,7 @@ module _ (s : System) where
   announces slot payload node (Broadcast given out) records = announcesIn slot node (Broadcast given out) records && same given payload
   announces slot payload node (Receive bundle out) records = false
 
-  -- The node delivers in a slot when receiving a bundle of that slot is answered delivered. It delivers this payload there when the bundle has it.
+  -- R14.8: the node delivers in a slot when receiving a bundle of that slot is answered delivered. It delivers this payload there when the bundle has it.
   unfoldable pub deliversIn : (slot : Slot) (node : ℕ) (call : Call) (records : List ℕ) → Bool
   deliversIn slot node Open records = false
   deliversIn slot node (Broadcast given out) records = false
@@ -105,7 +105,7 @@ module _ (s : System) where
   delivers slot payload node (Broadcast given out) records = false
   delivers slot payload node (Receive bundle out) records = deliversIn slot node (Receive bundle out) records && same (payloadIn bundle) payload
 
-  -- The node sends a bundle with each answer announced, signed or delivered. The bundle is the outgoing bytes: these bytes, or some of this slot.
+  -- R14.9: the node sends a bundle when a call is answered announced, signed or delivered. The bundle is the outgoing bytes: these bytes, or some of this slot.
   unfoldable pub sends : (node : ℕ) (call : Call) (records : List ℕ) → Bool
   sends node Open records = false
   sends node (Broadcast given out) records = after (calls-broadcast.broadcast (configAt node) given records out) (λ seq. true) false
@@ -118,19 +118,19 @@ module _ (s : System) where
   unfoldable pub sendsIn : (slot : Slot) (node : ℕ) (call : Call) (records : List ℕ) → Bool
   sendsIn slot node call records = sends node call records && inSlot slot (outAfter node call records)
 
-  -- the node signs a payload in a slot when it sends a bundle of that slot and payload with its own bit set
+  -- R14.10: the node signs a payload in a slot when it sends a bundle that has this slot, this payload and the node's own bit
   unfoldable pub signs : (slot : Slot) (payload : List ℕ) (node : ℕ) (call : Call) (records : List ℕ) → Bool
   signs slot payload node call records =
       sendsIn slot node call records
       && (same (payloadIn (outAfter node call records)) payload && member (headerIn (outAfter node call records) .signers) node)
 
-  -- A bundle reaches the node when a call there receives its bytes with 32 outgoing bytes, whoever brings it, and also if the call is refused.
+  -- R14.11: a bundle reaches the node when a call there receives its bytes with 32 outgoing bytes, whoever brings it, and also if the call is refused.
   unfoldable pub reaches : (bundle : List ℕ) (node : ℕ) (call : Call) (records : List ℕ) → Bool
   reaches bundle node Open records = false
   reaches bundle node (Broadcast given out) records = false
   reaches bundle node (Receive given out) records = same given bundle && eqb (length out) bundleSize
 
-  -- ---- and on a list of calls. A call gets the buffer as the last call at its node left it.
+  -- ---- and on a list of calls. R14.5: a call finds the buffer that the call before at its node left.
 
   abbrev pub buffer : (list : Trace Call) (node : ℕ) → List ℕ
   buffer = trace.state (s .buffers) recordsAfter
@@ -146,8 +146,8 @@ module _ (s : System) where
   abbrev pub called : (list : Trace Call) (node : ℕ) → Bool
   called = ever (λ node call records. true)
 
-  -- What faulty nodes cannot do: where a node receives a bundle that reading accepts there, a correct node's bit is set only if that node signed this
-  -- payload in this slot by an earlier call of the list.
+  -- R14.6, signatures are genuine: where a node receives a bundle that reading accepts there, each correct node whose bit is set signed the bundle's payload
+  -- in its slot, by an earlier call of the list.
   abbrev pub Unforged : (earlier : Trace Call) (node : ℕ) (call : Call) → Type 0
   Unforged earlier node Open = Unit
   Unforged earlier node (Broadcast given out) = Unit
@@ -156,8 +156,8 @@ module _ (s : System) where
       → (v : ℕ) → correct v ≡ true → member (h .signers) v ≡ true
       → ever (signs (slotOf h) (payloadPart (configAt node) bundle)) earlier v ≡ true
 
-  -- Each call is at a correct node, whose buffer has the right length. Each node called opens the day first, and once only: a call is an opening where
-  -- no call was at that node before, and only there.
+  -- R14.3 to R14.6: each call is at a correct node, whose buffer has the right length; a call is an opening where no call was at that node before, and only
+  -- there; and no signature is forged.
   abbrev pub Lawful : (list : Trace Call) → Type 0
   Lawful start = Unit
   Lawful (earlier then node calls call) =
@@ -170,45 +170,45 @@ module _ (s : System) where
   -- ---- the claim
 
   module _ (list : Trace Call) where
-    -- What is assumed: the configuration is good, so that n > 3t + 2d; at most t nodes are faulty; and the list is lawful. That the day fits 32 bits is
-    -- what its type says.
+    -- R14.1 to R14.6: the configuration is good, so that n > 3t + 2d; at most t nodes are faulty; and the list is lawful. That the day fits 32 bits is what
+    -- its type says.
     pub record Assumed : Type 0 where
       pub configured : good (configAt 0) ≡ true
       pub dated : s .shared .day < 2 ^ 32
       pub few : count (s .faulty) (s .shared .n) ≤ s .shared .t
       pub lawful : Lawful list
 
-    -- no two correct nodes have delivered different payloads in one slot
+    -- R14.13: what two correct nodes have delivered in a slot is one payload
     abbrev pub Agreement : Type 0
     Agreement =
         (u v : ℕ) (slot : Slot) (first second : List ℕ) → correct u ≡ true → correct v ≡ true
         → ever (delivers slot first) list u ≡ true → ever (delivers slot second) list v ≡ true
         → first ≡ second
 
-    -- no correct node has delivered a slot twice: was answered delivered there twice
+    -- R14.14: no correct node was answered delivered twice in a slot
     abbrev pub DeliversOnce : Type 0
     DeliversOnce = (u : ℕ) (slot : Slot) → correct u ≡ true → times (deliversIn slot) list u ≤ 1
 
-    -- what is delivered in a correct sender's slot was announced there by the sender
+    -- R14.15: what is delivered in a correct sender's slot was announced there by the sender;
     abbrev pub Validity : Type 0
     Validity =
         (u : ℕ) (slot : Slot) (payload : List ℕ) → correct u ≡ true → correct (slot .sender) ≡ true
         → ever (delivers slot payload) list u ≡ true
         → ever (announces slot payload) list (slot .sender) ≡ true
 
-    -- a correct node announces at most once in a slot, so that what it announced there is one payload
+    -- and a correct node announces at most once in a slot, so that what it announced there is one payload
     abbrev pub AnnouncesOnce : Type 0
     AnnouncesOnce = (u : ℕ) (slot : Slot) → correct u ≡ true → times (announcesIn slot) list u ≤ 1
 
-    -- a correct node has sent at most two bundles in a slot
+    -- R14.16: a correct node has sent at most two bundles in a slot
     abbrev pub SendsAtMostTwice : Type 0
     SendsAtMostTwice = (u : ℕ) (slot : Slot) → correct u ≡ true → times (sendsIn slot) list u ≤ 2
 
-    -- If every bundle that a correct node sent has reached at least c - d correct nodes, itself counted if reached,
+    -- R14.17: if each bundle that a correct node sent has reached c - d correct nodes or more, the sender counted where it was reached,
     abbrev pub Reached : Type 0
     Reached = (u : ℕ) (bundle : List ℕ) → correct u ≡ true → ever (sendsThis bundle) list u ≡ true → NearlyAll (ever (reaches bundle) list)
 
-    -- then what a correct node announced or delivered has been delivered by at least c - d correct nodes.
+    -- then what a correct node announced or delivered has been delivered by c - d correct nodes or more.
     abbrev pub Delivery : Type 0
     Delivery =
         (u : ℕ) (slot : Slot) (payload : List ℕ) → correct u ≡ true

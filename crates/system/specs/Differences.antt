@@ -1,5 +1,5 @@
--- How the calls differ from Algorithm 1, as laws of a whole list of calls: another payload is delivered only by a single bundle with a quorum, and a node
--- holds one payload of a slot, the one that it signed. calls' specs/Differences.antt has the laws of one call. They are proved in proofs/Differences.antt.
+-- Two differences from Algorithm 1, R13.2 and R13.3, as laws of a whole list of calls. calls' specs/Differences.antt has laws of one call. They are proved in
+-- proofs/Differences.antt.
 -- Assumes nothing.
 use mathlib.Core.Path.{_≡_}
 use mathlib.Core.Bool.{Bool, true, false, _&&_}
@@ -23,7 +23,7 @@ deliversAtOnce s slot payload node (Broadcast given out) records = false
 deliversAtOnce s slot payload node (Receive bundle out) records =
     delivers s slot payload node (Receive bundle out) records && leb (quorum (configAt s node)) (size (headerIn bundle .signers))
 
--- What a node delivered and did not sign came to it in a single bundle with a quorum, whoever is faulty and whatever is forged.
+-- R13.3: what a node delivered and did not sign came to it in a single bundle with a quorum, whoever is faulty and whatever is forged.
 abbrev pub OtherAtOnce : Type 0
 OtherAtOnce =
     (s : System) (list : Trace Call) → Orderly s list
@@ -31,8 +31,8 @@ OtherAtOnce =
     → ever s (delivers s slot payload) list u ≡ true → ever s (signs s slot payload) list u ≡ false
     → ever s (deliversAtOnce s slot payload) list u ≡ true
 
--- A node that was called holds one payload of a slot, the one that it signed there: it signs no second one, an empty record means that it signed none, a held one
--- that it signed the payload held, and a delivered one that it signed some payload.
+-- R13.2: a node that was called holds one payload of a slot, the one that it signed there. It signs no second one; an empty record means that it signed none,
+-- a held one that it signed the payload held, and a delivered one that it signed some payload.
 pub record HoldsSigned (s : System) (list : Trace Call) (u : ℕ) (slot : Slot) : Type 0 where
   pub signs-one : (first second : List ℕ) → ever s (signs s slot first) list u ≡ true → ever s (signs s slot second) list u ≡ true → first ≡ second
   pub empty : recordOf (configAt s u) slot (buffer s list u) ≡ Empty → (payload : List ℕ) → ever s (signs s slot payload) list u ≡ false

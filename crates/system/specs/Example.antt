@@ -1,5 +1,5 @@
--- That demand 3 is not empty: a list of calls, written out, that meets all that is assumed of one, on which a faulty node sends two payloads in its
--- slot, each bundle sent misses a correct node, and payloads are delivered. It is proved in proofs/Example.antt.
+-- R14.19: demand 3, the claim of RULES section 14, is not empty. A list of calls, written out, meets all that is assumed of one; on it a faulty node sends two
+-- payloads in its slot, each bundle that a correct node sends misses one, and payloads are delivered. It is proved in proofs/Example.antt.
 -- Assumes nothing.
 use mathlib.Core.Path.{_≡_}
 use mathlib.Core.Bool.{true}
@@ -109,8 +109,8 @@ list = correctSlot (faultySlot (start then 0 calls Open then 1 calls Open then 2
 abbrev pub reached : (bundle : List ℕ) → ℕ
 reached bundle = count (both (correct six) (ever six (reaches six bundle) list)) (six .shared .n)
 
--- The list meets every hypothesis of demand 3, with each bundle that a correct node sent reaching c - d of them and not one more. Node 4 signed one
--- payload in the slot of node 5 and delivered the other, as all correct nodes did. Node 0 announced a payload, which all of them delivered.
+-- The list meets R14.1 to R14.6 and the premise of R14.17, with each bundle that a correct node sent reaching c - d of them and not one more. Node 4 signed
+-- one payload in the slot of node 5 and delivered the other, as all correct nodes did. Node 0 announced a payload, which all of them delivered.
 abbrev pub NotVacuous : Type 0
 NotVacuous =
     Assumed six list

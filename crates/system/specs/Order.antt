@@ -1,5 +1,6 @@
--- Lists of calls in order: what demand 3 assumes but for faults and signatures. Some laws need no more, and hold whoever is faulty and whatever is forged. They are proved
--- in proofs/Simulation.antt, proofs/Demand3.antt and proofs/OrderlyRefusals.antt.
+-- Lists of calls in order: what demand 3, the claim of RULES section 14, assumes but for the number of faults and for signatures (R14.6). Some laws need no
+-- more, and hold whoever is faulty and whatever is forged: R4.6, and the counts of R14.18. That 23 does not come (R13.6) asks besides that the bundle given is
+-- genuine. They are proved in proofs/Simulation.antt, proofs/Demand3.antt and proofs/OrderlyRefusals.antt.
 -- Assumes nothing.
 use mathlib.Core.Path.{_≡_}
 use mathlib.Core.Bool.{true, not}
@@ -15,7 +16,7 @@ use Rattle.calls.specs.Receive.{receive}
 use Rattle.calls.specs.Showing.{delivered}
 use Rattle.system.specs.Demand3.{Call, Receive, System, configAt, correct, opens, announcesIn, deliversIn, sendsIn, buffer, times, called, Unforged, Assumed}
 
--- Each call is at a node, whose buffer has the right length, and each node called opens the day first, and once only.
+-- R14.4, R14.5: each call is at a node, faulty or not, whose buffer has the right length. It is an opening if no call was at that node before, and only then.
 abbrev pub InOrder : (s : System) (list : Trace Call) → Type 0
 InOrder s start = Unit
 InOrder s (earlier then u calls call) =
@@ -33,13 +34,13 @@ pub record Orderly (s : System) (list : Trace Call) : Type 0 where
 abbrev pub AssumedOrderly : Type 0
 AssumedOrderly = (s : System) (list : Trace Call) → Assumed s list → Orderly s list
 
--- On such a list no node delivers or announces twice in a slot, and none sends more than two bundles there.
+-- R14.18: on such a list no node delivers or announces twice in a slot, and none sends more than two bundles there.
 abbrev pub CountsInOrder : Type 0
 CountsInOrder =
     (s : System) (list : Trace Call) → Orderly s list → (u : ℕ) (slot : Slot)
     → (times s (deliversIn s slot) list u ≤ 1) × (times s (announcesIn s slot) list u ≤ 1) × (times s (sendsIn s slot) list u ≤ 2)
 
--- After such a list a node that was called has no record that is not well-formed, so that no call there is refused by 21.
+-- R4.6: after such a list no call at a node that was called is refused by 21, since all records there are well-formed.
 abbrev pub NeverMalformed : Type 0
 NeverMalformed =
     (s : System) (list : Trace Call) → Orderly s list → (u : ℕ) → u < s .shared .n → called s list u ≡ true
@@ -47,7 +48,7 @@ NeverMalformed =
     × ((bundle out : List ℕ) → receive (configAt s u) bundle (buffer s list u) out ≡ refused 21 → ⊥)
     × ((slot : Slot) → delivered (configAt s u) slot (buffer s list u) ≡ refused 21 → ⊥)
 
--- And a bundle in which no correct node's signature is forged is not refused by 23 at a correct node: what the node signed it holds, or it has delivered the slot.
+-- R13.6: nor is a genuine bundle refused by 23 there, if the node is correct: what the node signed it holds, or it has delivered the slot.
 abbrev pub NeverOwnUnknown : Type 0
 NeverOwnUnknown =
     (s : System) (list : Trace Call) → Orderly s list → (u : ℕ) → correct s u ≡ true → called s list u ≡ true

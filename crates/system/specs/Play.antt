@@ -1,5 +1,4 @@
--- Document 01, "The run program": the play that is printed there, step by step, and what is claimed of each of its seven lines. It is proved in
--- proofs/Play.antt.
+-- The first run, R16.5, step by step, and what is claimed of each of its seven lines as a fact that ranges over them (R17.6). It is proved in proofs/Play.antt.
 -- Assumes nothing.
 use mathlib.Core.Path.{_≡_}
 use mathlib.Core.Bool.{false}
@@ -33,7 +32,7 @@ playSystem = record {
 unfoldable pub playPayload : List ℕ
 playPayload = 0 ∷ 1 ∷ 2 ∷ 3 ∷ 4 ∷ 5 ∷ 6 ∷ 7 ∷ 8 ∷ 9 ∷ 10 ∷ 11 ∷ 12 ∷ 13 ∷ 14 ∷ 15 ∷ []
 
--- Act A broadcasts at a node. Act B gives a node a bundle of the day, which in the play is always of node 0's first slot.
+-- R15.8: act A broadcasts at a node, act B gives a node a bundle of the day, which in the play is always of node 0's first slot.
 pub data PlayStep : Type 0 where
   A : PlayStep
   B : (signers : ℕ) → PlayStep
@@ -49,7 +48,7 @@ abbrev pub playCall : (step : PlayStep) → Call
 playCall A = Broadcast playPayload playOut
 playCall (B signers) = Receive (playBundle signers) playOut
 
--- What is printed of an answer: its word, the number of the refusal or 0, and the count.
+-- R16.2: what is printed of an answer is its word, the number of the refusal or 0, and the count.
 pub data AnswerWord : Type 0 where
   Announced Kept Signed Delivered Refused : AnswerWord
   deriving Discrete as AnswerWord-discrete
@@ -73,7 +72,7 @@ receiptRow (Receipt.the-variants.Refused reason) = playRow Refused (numberOf rea
 abbrev pub stepAt : (node : ℕ) (step : PlayStep) (answer : AnswerWord) (reason count : ℕ) → ℕ × PlayStep × PlayRow
 stepAt node step answer reason count = (node, step, playRow answer reason count)
 
--- the paper's seven lines; the signers of line 6 lack the sender's bit
+-- the seven lines; the signers of line 6 lack the sender's bit
 unfoldable pub playSteps : List (ℕ × PlayStep × PlayRow)
 playSteps =
     stepAt 0 A Announced 0 1
@@ -99,7 +98,7 @@ follow ordinal before [] = []
 follow ordinal before (x ∷ rest) =
     record { ordinal = ordinal; before = before; node = x .0; step = x .1; row = x .2 } ∷ follow (suc ordinal) (before then x .0 calls playCall (x .1)) rest
 
--- each node opens the day first, and the ordinal is counted from 1
+-- the nodes open the day before the first step (R15.2), and the ordinal is counted from 1 (R16.2)
 unfoldable pub playLines : List PlayLine
 playLines = follow 1 (start then 0 calls Open then 1 calls Open then 2 calls Open then 3 calls Open) playSteps
 

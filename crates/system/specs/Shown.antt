@@ -1,6 +1,6 @@
--- What the nodes show is what they delivered, on a whole list of calls. At the end of every list in order, showing a slot at a node that was called gives a
--- payload if that node delivered it there by some call of the list, and only then; so at the end of every list of demand 3 no two correct nodes show different
--- payloads for one slot. Records are kept for one day, so this is about the slots of the system's day.
+-- R9.3: what the nodes show is what they delivered, on a whole list of calls. At the end of every list in order, showing a slot at a node that was called
+-- gives a payload if that node delivered it there by some call of the list, and only then; so at the end of every list of demand 3, the claim of RULES section
+-- 14, no two correct nodes that were called show different payloads for one slot. Records are kept for one day, so this is about the slots of the system's day.
 -- It is proved in proofs/Shown.antt.
 -- Assumes nothing.
 use mathlib.Core.Path.{_≡_}
@@ -24,8 +24,8 @@ module _ (s : System) (list : Trace Call) (node : ℕ) (slot : Slot) where
   abbrev pub shownPayload : List ℕ
   shownPayload = deliveredPart (configAt s node) slot (buffer s list node)
 
--- What is shown was delivered, and what was delivered is shown, at its record's place, whoever is faulty and whatever is forged. A node that was not called has any bytes in
--- its buffer.
+-- What is shown was delivered, and what was delivered is shown, in its record (R9.2), whoever is faulty and whatever is forged. A node that was not called
+-- has any bytes in its buffer.
 abbrev pub ShownIsDelivered : Type 0
 ShownIsDelivered =
     (s : System) (list : Trace Call) → Orderly s list

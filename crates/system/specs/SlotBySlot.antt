@@ -1,6 +1,6 @@
--- Demand 3 with delivery slot by slot. Demand 3 asks that every bundle which a correct node sent has reached nearly all, so that one loss too many in one
--- slot would void delivery in all of them. Here delivery in a slot is claimed from the bundles of that slot alone; the rest is as in demand 3, which
--- follows. It is proved in proofs/Demand3.antt, and that it says more in proofs/SlotBySlot.antt.
+-- R14.18: demand 3, the claim of RULES section 14, with delivery slot by slot. R14.17 asks that every bundle which a correct node sent has reached nearly all,
+-- so that one loss too many in one slot would void delivery in all of them. Here delivery in a slot is claimed from the bundles of that slot alone; the rest
+-- is as in demand 3, which follows. It is proved in proofs/Demand3.antt, and that it says more in proofs/SlotBySlot.antt.
 -- Assumes nothing.
 use mathlib.Core.Path.{_≡_}
 use mathlib.Core.Logic.{_⊎_}

@@ -1,6 +1,7 @@
--- What demand 3 assumes of faults, signatures, losses, openings and the length of buffers and outgoing bytes cannot be left out: for each there is a list of calls that keeps every other
--- hypothesis and at which a conclusion fails. What it assumes of the quorum is part of a good configuration, and is shown on values, in protocol's
--- specs/Tight.antt. They are proved in proofs/Tight.antt, by lists that are written out and computed.
+-- R14.19: seven parts of what demand 3, the claim of RULES section 14, asks cannot be left out. For each there is a list of calls that meets all the rest and
+-- at which one promise or two fail: with t + 1 faults, with forged signatures, with one correct node too few reached, without opening first, without opening
+-- once, with a buffer of no bytes, and with no outgoing bytes. For n > 3t + 2d there is no list here; protocol's specs/Tight.antt shows on values which bounds
+-- of the quorum ask it. They are proved in proofs/Tight.antt, by lists that are written out and computed.
 -- Assumes nothing.
 use mathlib.Core.Path.{_≡_}
 use mathlib.Core.Bool.{Bool, true, false, cond, not}
@@ -33,7 +34,7 @@ module _ (s : System) (Sized : (node : ℕ) → Type 0) (Opening : (opens called
       × Opening (opens s node call (buffer s earlier node)) (called s earlier node)
       × Genuine earlier node call
 
--- as demand 3 asks it, and a part of that
+-- R14.5's length and R14.4 as demand 3 asks them, and the two halves of R14.4: the first call at a node is an opening; a later one is none
 abbrev pub RightLength : System → (node : ℕ) → Type 0
 RightLength s node = length (s .buffers node) ≡ recordsSize (configAt s node)
 
@@ -83,7 +84,7 @@ twoNodes = configFor 2 0 0 7
 unfoldable pub pair : (second : List ℕ) → System
 pair second = record { shared = twoNodes; faulty = λ node. false; buffers = λ node. cond (eqb node 1) second (replicate (recordsSize twoNodes) 0) }
 
--- ---- faults
+-- ---- faults (R14.1)
 
 -- Nodes 2 and 3 are faulty, one more than t, and have signed two payloads in the slot of 3. Each correct node adds its own signature to one of them.
 unfoldable pub twoFaulty : System
@@ -102,7 +103,7 @@ FaultyTight =
     AssumedBy twoFaulty (count (twoFaulty .faulty) (twoFaulty .shared .n) ≡ twoFaulty .shared .t + 1) (Lawful twoFaulty bothSigned)
     × (Agreement twoFaulty bothSigned → ⊥)
 
--- ---- signatures
+-- ---- signatures (R14.6)
 
 -- Node 3 is faulty. Node 0 receives a payload as if 1 and 2 had signed it, and 1 another as if 0 and 2 had.
 unfoldable pub oneFaulty : System
@@ -121,7 +122,7 @@ ForgedTight =
     AssumedBy oneFaulty (AtMostT oneFaulty) (LawfulBy oneFaulty (RightLength oneFaulty) OpensFirstAndOnce (λ earlier node call. Unit) forged)
     × (Agreement oneFaulty forged → ⊥)
 
--- ---- losses
+-- ---- losses (R14.17)
 
 -- Node 0 announces. Its bundle and the one of 1, which signs it, reach 0 and 1 and not 2: one correct node fewer than c - d.
 unfoldable pub oneMissed : Trace Call
@@ -142,7 +143,7 @@ ReachTight =
     → correctCount oneFaulty - oneFaulty .shared .d - 1 ≤ count (both (correct oneFaulty) (ever oneFaulty (reaches oneFaulty bundle) oneMissed)) (oneFaulty .shared .n))
     × (Delivery oneFaulty oneMissed → ⊥)
 
--- ---- openings
+-- ---- openings (R14.4)
 
 -- A node by itself opens the day, announces and delivers, and then opens the same day again. Its first slot is used twice: it delivers two payloads there.
 unfoldable pub openedAgain : Trace Call
@@ -180,7 +181,7 @@ OpenFirstTight =
     × Reached leftOver neverOpened
     × (Delivery leftOver neverOpened → ⊥)
 
--- ---- buffers
+-- ---- buffers (R14.5)
 
 -- Both nodes open the day, but node 1 has no buffer. Node 0 announces, its bundle reaches both, and too few deliver.
 unfoldable pub noBuffer : System
@@ -201,7 +202,7 @@ SizedTight =
     × Reached noBuffer bothOpened
     × (Delivery noBuffer bothOpened → ⊥)
 
--- ---- outgoing bytes
+-- ---- outgoing bytes (R14.11)
 
 -- a call receives this bundle, with any outgoing bytes
 unfoldable pub handed : (bundle : List ℕ) (node : ℕ) (call : Call) (records : List ℕ) → Bool

@@ -1,4 +1,4 @@
--- Document 01, "The run program": lines, fields and numbers of a text, read and written. A text is the list of its bytes, in ASCII.
+-- Lines, fields and numbers of a text, read and written: R15.3, R15.4 and R15.9 of docs/RULES.md. A text is the list of its bytes, in ASCII.
 -- Assumes nothing.
 use mathlib.Core.Bool.{Bool, true, false, not, cond, _&&_, _||_}
 use mathlib.Core.List.{List, [], _∷_, _++_}
@@ -31,7 +31,7 @@ unfoldable pub onto : ℕ → List (List ℕ) → List (List ℕ)
 onto b [] = (b ∷ []) ∷ []
 onto b (line ∷ others) = (b ∷ line) ∷ others
 
--- "Lines end with a line feed, the last one with or without."
+-- R15.3: the lines of a text, without their line feeds. After the last line there may be one or none.
 unfoldable pub lines : List ℕ → List (List ℕ)
 lines [] = []
 lines (b ∷ bs) = cond (eqb b lineFeed) ([] ∷ lines bs) (onto b (lines bs))
@@ -41,7 +41,7 @@ unfoldable pub before : ℕ → List ℕ → ℕ
 before b [] = 0
 before b (x ∷ xs) = cond (eqb x b) 0 (suc (before b xs))
 
--- "Fields are separated by one space": the first field of a text, and the text after it and its space
+-- R15.4: the first field of a text, up to the first space, and the text after that space
 unfoldable pub firstField : List ℕ → List ℕ
 firstField xs = take (before space xs) xs
 
@@ -64,7 +64,7 @@ unfoldable pub only : (ℕ → Bool) → List ℕ → Bool
 only test [] = true
 only test (x ∷ xs) = test x && only test xs
 
--- the digits 0 to 9, and the lowercase hexadecimal ones, 0 to 9 and a to f
+-- the digits 0 to 9, and the hexadecimal ones of R15.9, 0 to 9 and a to f
 unfoldable pub digit : ℕ → Bool
 digit b = leb 48 b && leb b 57
 
@@ -84,7 +84,7 @@ unfoldable pub empty : List ℕ → Bool
 empty [] = true
 empty (x ∷ xs) = false
 
--- "plain numbers are decimal, without sign or leading zeros"
+-- R15.4: one decimal digit or more, and a zero in front only if it is all of the number
 unfoldable pub plainNumber : List ℕ → Bool
 plainNumber [] = false
 plainNumber (x ∷ xs) = only digit (x ∷ xs) && (not (eqb x 48) || empty xs)
@@ -100,11 +100,11 @@ numberAt limit text at =
     (Plain (value 10 0 (firstField (drop at text))) (at + length (firstField (drop at text)) + 1))
     NotPlain
 
--- so many lowercase hexadecimal digits, and no more
+-- R15.9: so many hexadecimal digits, and no more
 unfoldable pub hex : ℕ → List ℕ → Bool
 hex k xs = eqb (length xs) k && only hexDigit xs
 
--- "16 .. lowercase hexadecimal digits": a 64-bit word
+-- the 64-bit word that 16 of them write
 unfoldable pub wordIn : List ℕ → Word
 wordIn xs = cond (hex 16 xs) (Hex (value 16 0 xs)) NotHex
 

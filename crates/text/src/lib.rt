@@ -12,7 +12,7 @@ ghost use lib.ListN.{length, take, drop};
 ghost use Rattle.octets.specs.Octets.{same as sameBytes};
 ghost use Rattle.text.specs.Text.{before, numberAt, wordIn, decimal as decimalOf, written, end as endOf};
 
-// A field that was read as a plain number: its value, and the index at which the next field starts.
+// A field that was read as a plain number (R15.4): its value, and the index at which the next field starts.
 pub enum Number {
     Plain(u32, usize),
     NotPlain,
@@ -102,7 +102,7 @@ fn first_number(limit: u32, text: &[u8]) -> Number
     Number::Plain(value as u32, i + 1)
 }
 
-// Sixteen lowercase hexadecimal digits as a word.
+// Sixteen hexadecimal digits with small letters (R15.9) as a word.
 pub fn hex(text: &[u8]) -> Word
     ensures { λ r. ⌜ r ≡ wordIn (now (text .entry)) ⌝ }
 {
