@@ -5,7 +5,7 @@
  * slot (a day, a sender and a number from 0 to 15), whatever faulty units send and whatever is lost, late, twice or out of order. That is
  * proved of the functions in this library, with every code and byte that they give, for hosts that keep to what follows.
  *
- * Build the library with `rt staticlib host` and link target/staticlib/libhost.a, for x86-64. It allocates nothing, keeps nothing between calls, and
+ * Build the library with `rt staticlib mbrb` and link target/staticlib/libmbrb.a, for x86-64. It allocates nothing, keeps nothing between calls, and
  * calls nothing of the host's. examples/host has a program to start from.
  *
  *

@@ -8,7 +8,7 @@ use config::Config;
 ghost use mathlib.Core.Path.{_≡_};
 ghost use Rattle.calls.specs.Broadcast.{broadcast, broadcastRecords, broadcastOut, announcementOf};
 ghost use Rattle.calls.specs.Receive.{receive, receiveRecords, receiveOut, receiptOf};
-ghost use Rattle.host.specs.Code.{configOf, announcedCode, receivedCode, reportedCode};
+ghost use Rattle.mbrb.specs.Code.{configOf, announcedCode, receivedCode, reportedCode};
 
 // Broadcasts a payload. The code is 200 plus the sequence number, or the refusal's number.
 #[no_mangle]

@@ -21,7 +21,7 @@ use Rattle.calls.specs.Records.{recordAt, ownSlot}
 use Rattle.calls.specs.Broadcast.{search, broadcastReasons, broadcast, broadcastRecords, broadcastOut}
 use Rattle.calls.specs.Receive.{receiveReasons, receive, receiveRecords, receiveOut, reported}
 use Rattle.calls.proofs.NoEffect.{refused-broadcast-changes-nothing, refused-receive-changes-nothing}
-use Rattle.host.specs.Code.{announcedCode, answerCode, receivedCode, reportedCode, broadcastCodes, receiveCodes, listed, BroadcastListed, ReceiveListed, RefusalsBelow100, RefusalCodeChangesNothing}
+use Rattle.mbrb.specs.Code.{announcedCode, answerCode, receivedCode, reportedCode, broadcastCodes, receiveCodes, listed, BroadcastListed, ReceiveListed, RefusalsBelow100, RefusalCodeChangesNothing}
 
 without-count : (outcome : Outcome Update) → reportedCode (outcome and-then λ result. done (reported result)) ≡ receivedCode outcome
 unfolding reported
