@@ -129,11 +129,11 @@
  * 9. What is proved, and what is argued
  *
  * Proved of the functions, for all bytes, lengths and numbers: each code, each byte afterwards, that a refusal changes
- * none, that a call on a slot changes the 32 bytes of its record alone and answers by that record, the input, the table
- * and the lengths (announcing by our own sixteen records), and that it ends. Proved of whole lists of calls at sound
- * units: agreement, at most one delivery and two sendings in a slot, only announced bodies in a sound sender's slots,
- * and delivery as in section 7; that 21 does not come there, nor 23 where the bits are true. docs/CLAIMS.md has each
- * with its file.
+ * none, that taking and announcing write to the record of their slot and to no other, that taking answers by this
+ * record, the input, the table and the lengths, and announcing by our own sixteen records besides, and that a call ends.
+ * Proved of whole lists of calls at sound units: agreement, at most one delivery and two sendings in a slot, only
+ * announced bodies in a sound sender's slots, and delivery as in section 7; that 21 does not come there, nor 23 where
+ * the bits are true. docs/CLAIMS.md has each with its file.
  *
  * Argued and not proved: that a host which keeps to sections 3 to 7 is such a list. The lists know no restart. A call
  * whose change was lost before anything of it was sent or acted on is left out of the list: its answer was seen by
@@ -148,8 +148,9 @@
  *   - Memory: MBRB_RECORDS_SIZE(n) bytes of records, which the host gives. The library allocates nothing and has no
  *     data of its own.
  *   - Stack: 584 bytes for mbrb_broadcast with all sixteen numbers used (72 with none), 88 for mbrb_receive, 24 for
- *     mbrb_open; besides, up to 40 bytes of arguments that the caller puts there. From the frames of the machine code,
- *     return addresses included, and seen on a painted stack.
+ *     mbrb_open, and for what the host's memset takes below it; besides, up to 40 bytes of arguments that the caller
+ *     puts there. These are the frames of the machine code, return addresses included; tests/footprint sees the same on
+ *     a stack that was painted before.
  *   - Code: 1,756 bytes. No vector or floating-point register is used. The one symbol that it takes from the host is
  *     memset, for mbrb_open.
  *   - mbrb_receive uses 32 bytes below the stack pointer (the red zone of the calling convention), counted above. Where

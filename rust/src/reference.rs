@@ -314,7 +314,7 @@ pub fn broadcast_code(config: &Config, payload: &[u8], records: &mut [u8], out: 
     }
 }
 
-/// `receive` for a C host: the refusal's number, or 100 kept, 101 signed, 102 delivered.
+/// `receive` for a C host: 100 for kept, 101 for signed, 102 for delivered, or the refusal's number.
 pub fn receive_code(config: &Config, bundle: &[u8], records: &mut [u8], out: &mut [u8]) -> u32 {
     match receive(config, bundle, records, out) {
         Ok(Receipt::Kept(_)) => 100,
