@@ -1,4 +1,4 @@
--- What reading and writing accept and refuse, and that an answer is known by the paper's number and values.
+-- What reading and writing accept and refuse, and that an answer is known by its number and values.
 -- Assumes nothing.
 use mathlib.Core.Path.{_≡_, _∙_, sym, ap}
 use mathlib.Core.Bool.{true, false, and-eq-true-iff, or-false}
@@ -57,7 +57,7 @@ readable-accepted config bundle r =
       ),
     )
 
--- a reading is known by the paper's number and values, so the contract of `read` leaves one answer
+-- R17.1: a reading is known by its number and values, so the contract of `read` leaves one answer
 pub reading-one : (a b : Reading) → readingOf a ≡ readingOf b → a ≡ b
 reading-one (Accepted h) (Accepted k) e = let same : h ≡ k = cc in ap Accepted same
 reading-one (Accepted h) (Refused s) e = absurd (refused-not-done (numberOf s) h (sym e))

@@ -1,4 +1,4 @@
--- Neither theorem of the round trip is empty: the bundle of the second step of document 01's play is written at node 0, read at node 1
+-- Neither theorem of the round trip is empty: the bundle of the second step of the first run (R16.5) is written at node 0, read at node 1
 -- and written there again.
 -- Assumes nothing.
 use mathlib.Core.Path.{_≡_, refl}

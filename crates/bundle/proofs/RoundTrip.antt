@@ -1,4 +1,4 @@
--- Demand 2, second sentence: the two statements of specs/RoundTrip.antt, proved.
+-- R10.3 and R10.4: the two statements of specs/RoundTrip.antt, proved.
 -- Assumes nothing.
 use mathlib.Core.Path.{_≡_, refl, sym, ap, ap₂, _∙_, subst}
 use mathlib.Core.Bool.{true}
@@ -71,7 +71,7 @@ peers-clear : (first second : Config) (h : Header) → second .n ≡ first .n �
 unfolding headerReasons
 peers-clear first second h e c = rw e c
 
--- "Fields written as a bundle read back the same,"
+-- R10.3: what is written reads back,
 pub written-reads-back : WrittenReadsBack
 unfolding slotOfDay slotIn headerIn
 written-reads-back writer reader sender seq signers payload out bundle peers d e =
@@ -98,7 +98,7 @@ unfolding slotOfDay
 day-back writer h e =
     ap {B = Header} (λ (day : ℕ). record { day = day; sender = h .sender; seq = h .seq; signers = h .signers }) (sym e)
 
--- "and an accepted bundle read and written again has the same 32 bytes."
+-- R10.4: and what is accepted writes back
 pub accepted-writes-back : AcceptedWritesBack
 unfolding headerIn
 accepted-writes-back reader writer h bundle out peers bytes l e =

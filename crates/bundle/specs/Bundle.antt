@@ -1,5 +1,5 @@
--- Document 01, "Bundle and record" and the refusals of reading and writing. The paper's number of a slot is `seq` here and its
--- body is `payload`.
+-- The bytes of a bundle (R3.1), and what reading and writing one give and refuse (RULES section 10). The formats' number is `seq` here, and their body
+-- is `payload`.
 -- Assumes nothing.
 use mathlib.Core.Bool.{cond, not, _&&_}
 use mathlib.Core.List.{List, [], _∷_, _++_}
@@ -25,7 +25,7 @@ slotOf h = record { day = h .day; sender = h .sender; seq = h .seq }
 abbrev pub headerOf : Slot → (signers : ℕ) → Header
 headerOf slot signers = record { day = slot .day; sender = slot .sender; seq = slot .seq; signers = signers }
 
--- "Both have 32 bytes"
+-- R3.1: how many bytes a bundle has
 abbrev pub bundleSize : ℕ
 bundleSize = 32
 
@@ -33,7 +33,7 @@ bundleSize = 32
 abbrev pub payloadStart : ℕ
 payloadStart = 16
 
--- "Bundle: bytes 0-3 day, 4 sender, 5 number, 6-7 zero, 8-15 signers, 16-31 body."
+-- R3.1: the day in four bytes, sender and number in one each, two zero bytes, the signers in eight, and the payload
 unfoldable pub bundleOf : Header → (payload : List ℕ) → List ℕ
 bundleOf h payload = bytesOf 4 (h .day) ++ (h .sender ∷ h .seq ∷ 0 ∷ 0 ∷ (bytesOf 8 (h .signers) ++ payload))
 
@@ -47,7 +47,7 @@ headerIn bundle = headerOf (slotIn bundle) (number (part 8 8 bundle))
 abbrev pub payloadIn : (bundle : List ℕ) → List ℕ
 payloadIn bundle = part payloadStart payloadSize bundle
 
--- 5 sender n or above, 6 number above 15, 7 a signer bit at n or above, 8 the sender's bit not set
+-- R5.4, of a header: sender and number out of range, a signer that is no node, and a sender that has not signed
 unfoldable pub headerReasons : Config → Header → List Reason
 headerReasons config h =
     (5 if not (ltb (h .sender) (config .n)))
@@ -56,7 +56,7 @@ headerReasons config h =
     ∷ (8 if not (member (h .signers) (h .sender)))
     ∷ []
 
--- 1 table not good, 2 bundle not 32 bytes, 3 byte 6 or 7 not zero, 4 day differs from the table's, then 5-8
+-- R10.1: what reading tests, in this order: configuration, length, reserved bytes, day, and then the header
 unfoldable pub readReasons : Config → List ℕ → List Reason
 readReasons config bundle =
     (1 if not (good config))
@@ -65,11 +65,11 @@ readReasons config bundle =
     ∷ (4 if not (eqb (slotIn bundle .day) (config .day)))
     ∷ headerReasons config (headerIn bundle)
 
--- "Reading gives the fields,"
+-- R10.1: reading gives the header,
 unfoldable pub read : Config → List ℕ → Outcome Header
 read config bundle = unless (readReasons config bundle) (headerIn bundle)
 
--- "and the body as a part of the bundle, likewise empty on refusal."
+-- and the payload as a part of the bundle, which is empty where reading refuses
 unfoldable pub payloadPart : Config → (bundle : List ℕ) → List ℕ
 payloadPart config bundle = after (read config bundle) (λ h. payloadIn bundle) []
 
@@ -90,7 +90,7 @@ abbrev pub headerOfDay : Config → (sender seq signers : ℕ) → Header
 headerOfDay config sender seq signers = headerOf (slotOfDay config sender seq) signers
 
 module _ (config : Config) (sender seq signers : ℕ) (payload out : List ℕ) where
-  -- 1, 5-8, then 9 body not 16 bytes and 10 outgoing buffer not 32 bytes
+  -- R10.2: what writing tests, in this order: configuration, header, and the two lengths
   unfoldable pub writeReasons : List Reason
   writeReasons =
       (1 if not (good config))
@@ -99,11 +99,11 @@ module _ (config : Config) (sender seq signers : ℕ) (payload out : List ℕ) w
       ∷ (10 if not (eqb (length out) bundleSize))
       ∷ []))
 
-  -- "Writing takes sender, number, signers and body; the day comes from the table." It gives the bytes written over `out`.
+  -- R10.2: writing gives the bytes of a bundle of the configuration's day, which go over `out`
   unfoldable pub write : Outcome (List ℕ)
   write = unless writeReasons (bundleOf (headerOfDay config sender seq signers) payload)
 
-  -- the outgoing bytes afterwards
+  -- the outgoing bytes afterwards; a refusal leaves them (R5.1)
   abbrev pub writeOut : List ℕ
   writeOut = after write (λ bytes. bytes) out
 
@@ -111,7 +111,7 @@ module _ (config : Config) (sender seq signers : ℕ) (payload out : List ℕ) w
 unfoldable pub encoded : Header → (payload out : List ℕ) → List ℕ
 encoded h payload out = cond (eqb (length out) bundleSize) (bundleOf h payload) out
 
--- document 01's number and values for each case of a reading
+-- the number and values of each case of a reading (R17.3)
 abbrev pub readingOf : Reading → Outcome Header
 readingOf (Accepted h) = done h
 readingOf (Refused r) = refused (numberOf r)

@@ -1,4 +1,4 @@
--- Demand 2, second sentence, as two statements about the definitions that the contracts of reading and writing cite.
+-- R10.3 and R10.4, as two statements about the definitions that the contracts of reading and writing cite.
 -- They are proved in proofs/RoundTrip.antt. That the day fits 32 bits and that a bundle's elements are bytes is what the types
 -- of the functions' arguments say.
 -- Assumes nothing.
@@ -20,14 +20,14 @@ pub record Peers (first second : Config) : Type 0 where
   pub nodes : second .n ≡ first .n
   pub today : second .day ≡ first .day
 
--- "Fields written as a bundle read back the same,"
+-- R10.3: what one node writes the other reads: the same header, and the same payload.
 abbrev pub WrittenReadsBack : Type 0
 WrittenReadsBack =
     (writer reader : Config) (sender seq signers : ℕ) (payload out bundle : List ℕ) → Peers writer reader → writer .day < 2 ^ 32
     → write writer sender seq signers payload out ≡ done bundle
     → (read reader bundle ≡ done (headerOfDay writer sender seq signers)) × (payloadPart reader bundle ≡ payload)
 
--- "and an accepted bundle read and written again has the same 32 bytes."
+-- R10.4: a bundle that one node accepts the other writes again over 32 outgoing bytes, byte for byte.
 abbrev pub AcceptedWritesBack : Type 0
 AcceptedWritesBack =
     (reader writer : Config) (h : Header) (bundle out : List ℕ) → Peers reader writer → Bytes bundle → length out ≡ bundleSize

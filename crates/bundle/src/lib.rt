@@ -1,7 +1,7 @@
-// Reading and writing a bundle: the 32 bytes in which nodes send each other a signed payload.
+// Reading and writing a bundle: the 32 bytes in which nodes send each other a signed payload (R3.1).
 //
-// Every function is defined for all bytes, lengths and numbers. Reading and writing refuse by the first
-// reason of document 01 that applies; `load_payload` and `encode` check nothing but the length.
+// Every function is defined for all bytes, lengths and numbers (R1.4). Reading and writing refuse by the
+// first reason that applies (R5.2); `load_payload` and `encode` check nothing but the length.
 use config::Config;
 use payload::Payload;
 use refusal::Refusal;
@@ -35,7 +35,7 @@ pub enum Reading {
     Refused(Refusal),
 }
 
-// The fields of a bundle, or why it is refused.
+// R10.1: the fields of a bundle, or why it is refused.
 pub fn read(config: Config, bundle: &[u8]) -> Reading
     ensures { λ r. ⌜ readingOf r ≡ readOf config (now (bundle .entry)) ⌝ }
 {
@@ -64,7 +64,8 @@ pub fn read(config: Config, bundle: &[u8]) -> Reading
     }
 }
 
-// The payload as a part of the bundle that the caller gave; the empty part at its start where `read` refuses.
+// R10.1: the payload as a part of the bundle that the caller gave; the empty part at its start where `read`
+// refuses.
 pub fn payload(config: Config, bundle: &[u8]) -> &[u8]
     ensures { λ r. ⌜ now r ≡ payloadPart config (now (bundle .entry)) ⌝ }
     ensures { λ r. ⌜ r .ptr ≡ advance (payloadPlace config (now (bundle .entry))) (bundle .entry .ptr) ⌝ }
@@ -86,7 +87,7 @@ pub fn load_payload(bundle: &[u8]) -> Payload
     payload::load(&bundle[PAYLOAD_AT..SIZE])
 }
 
-// Writes a bundle of the configuration's day over `out`. A refusal leaves `out` as it is.
+// R10.2: writes a bundle of the configuration's day over `out`. A refusal leaves `out` as it is (R5.1).
 pub fn write(
     config: Config,
     sender: u8,

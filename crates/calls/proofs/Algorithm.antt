@@ -1,4 +1,4 @@
--- Demand 2, first sentence, of the calls: what specs/Algorithm.antt claims, from the same on values.
+-- R13.1, of the calls: what specs/Algorithm.antt claims, from the same on values.
 -- Assumes nothing.
 use mathlib.Core.Path.{_≡_, refl, sym, ap, _∙_, subst}
 use mathlib.Core.Bool.{true, cond}

@@ -1,4 +1,4 @@
--- An answer is known by the paper's number and values, so the contracts of broadcasting and receiving leave one answer. The count of an announcement
+-- R17.1: an answer is known by its number and values, so the contracts of broadcasting and receiving leave one answer. The count of an announcement
 -- is that of its record's signers.
 -- Assumes nothing.
 use mathlib.Core.Path.{_≡_, refl, sym, ap, _∙_}

@@ -1,7 +1,6 @@
--- Demand 2, first sentence: "Each call does to its slot what Algorithm 1 .. does, but for the differences listed in document 01." The algorithm,
--- the differences as functions and what it means to follow it (`Follows`, `SameState`, `onBroadcast`) are in protocol's specs/Algorithm.antt; here
--- they are said of the bytes that the calls' contracts give. Refusal 8 is the second half of the paper's line 3; days, slot limits and the other
--- refusals before 22 are document 01's own. They are proved in proofs/Algorithm.antt.
+-- R13.1, of the calls. The algorithm, the differences as functions and what it means to follow it (`Follows`, `SameState`, `onBroadcast`) are in
+-- protocol's specs/Algorithm.antt; here they are said of the bytes that the calls' contracts give. Refusal 8 is the second half of line 3 (R13.6); days,
+-- slot limits and the other refusals before 22 are not in the algorithm (R13.5). They are proved in proofs/Algorithm.antt.
 -- Assumes nothing.
 use mathlib.Core.Path.{_≡_}
 use mathlib.Core.Bool.{true, cond}
@@ -27,7 +26,7 @@ use Rattle.calls.specs.Receive.{recordBundle, receive, receiveRecords, r
 abbrev pub recordOf : Config → Slot → (records : List ℕ) → Record
 recordOf config slot records = decoded (recordAt config slot records)
 
--- The quorum of a good configuration is what the paper's line 9 asks for: strictly more than (n + t)/2 signatures.
+-- R13.7: the quorum of a good configuration is what line 9 asks for, strictly more than (n + t)/2 signatures.
 abbrev pub QuorumIsLine9 : Type 0
 QuorumIsLine9 = (config : Config) (k : ℕ) → good config ≡ true → leb (quorum config) k ≡ ltb (config .n + config .t) (k + k)
 
@@ -36,14 +35,14 @@ abbrev pub onBytes : Config → (bundle : List ℕ) → algorithm.State → algo
 onBytes config bundle σ =
     algorithm.onBundle (config .own) (quorum config) (headerIn bundle .sender) (payloadIn bundle) (headerIn bundle .signers) σ
 
--- Opening starts every slot as the algorithm starts: nothing saved, signed or delivered.
+-- R6.1: opening starts every slot as the algorithm starts: nothing saved, signed or delivered.
 abbrev pub OpenStarts : Type 0
 OpenStarts =
     (config : Config) (records : List ℕ) (slot : Slot) → good config ≡ true → length records ≡ recordsSize config → inRange config slot ≡ true
     → recordOf config slot (openRecords config records) ≡ Empty
 
--- An announcement is answered in a slot of ours of which we kept nothing. The record stored is the algorithm's state after mbrb_broadcast, and
--- the bytes sent are the bundle that it broadcasts.
+-- R13.1, lines 1 and 2: a broadcast that is not refused is in a slot of ours of which we kept nothing. The record stored is the algorithm's state after
+-- mbrb_broadcast, and the bytes sent are the bundle that it broadcasts.
 abbrev pub BroadcastFollows : Type 0
 BroadcastFollows =
     (config : Config) (payload records out : List ℕ) (seq : ℕ) → broadcast config payload records out ≡ done seq
@@ -55,7 +54,7 @@ BroadcastFollows =
     ≡ algorithm.broadcast (announcedHeader config seq .signers) payload ∷ [])
     × (broadcastOut config payload records out ≡ bundleOf (announcedHeader config seq) payload)
 
--- A bundle that reading refuses by 8 lacks its sender's signature, and the algorithm does nothing with it, whatever its state.
+-- R13.6: a bundle that reading refuses by 8 lacks its sender's signature, and the algorithm does nothing with it, whatever its state.
 abbrev pub UnsignedFollows : Type 0
 UnsignedFollows =
     (config : Config) (bundle records out : List ℕ) (σ : algorithm.State) → read config bundle ≡ refused 8
@@ -63,8 +62,8 @@ UnsignedFollows =
     × algorithm.SameState (onBytes config bundle σ .state) σ
     × (onBytes config bundle σ .effects ≡ [])
 
--- A receive that reading (1-8) and document 01's own refusals (10, 20, 21) let pass follows the algorithm: done, or refused by 22, 23 or 24. Where it is done,
--- the record stored is the one of the update, and the bytes sent are the update's bundle, if it sends.
+-- R13.1, lines 3 to 13: a receive that passes reading (1 to 8) and 10, 20 and 21 follows the algorithm: done, or refused by 22, 23 or 24. Where it is done, the
+-- record stored is the one of the update, and the bytes sent are the update's bundle, if it sends.
 abbrev pub ReceiveFollows : Type 0
 ReceiveFollows =
     (config : Config) (bundle records out : List ℕ) (h : Header)

@@ -1,5 +1,5 @@
--- Document 01, "Calls", announcing: "Announcing uses the lowest of our numbers whose record is empty. .. It stores the body as held with our
--- bit alone, writes that bundle out and answers with the number."
+-- RULES section 7: broadcasting, called announcing in the formats. The payload goes into the first of our records that is empty, as held and signed by us
+-- alone, and its bundle to the outgoing bytes (R7.3). Nothing is delivered by it (R7.4).
 -- Assumes nothing.
 use mathlib.Core.Path.{_≡_}
 use mathlib.Core.Bool.{not, cond}
@@ -23,20 +23,20 @@ use Rattle.calls.specs.Records.{ownSlot, recordAt, stored, wrongSize}
 use Rattle.calls.specs.declared.Announcement.{Announcement}
 use Rattle.calls.specs.declared.Announcement.the-variants.{Announced, Refused}
 
--- "The search looks at one record and hands the rest of the sixteen to itself.": from number `seq` on, `left` records are left. An empty record
--- is all zero; 21 is for a malformed one that no empty one comes before, and 25 where all are well-formed and none is empty.
+-- R7.2: the search looks at the record of number `seq`, the first of `left` that are left, and calls itself for those after it. An empty record is all zero;
+-- 21 is for a malformed one that no empty one comes before, and 25 where all are well-formed and none is empty.
 unfoldable pub search : Config → (records : List ℕ) (seq left : ℕ) → Outcome ℕ
 search config records seq zero = refused 25
 search config records seq (suc left) =
     cond (blank (recordAt config (ownSlot config seq) records)) (done seq)
     (cond (wellFormed config (config .own) (recordAt config (ownSlot config seq) records)) (search config records (suc seq) left) (refused 21))
 
--- the header of an announcement's bundle: our bit alone
+-- the header of a broadcast's bundle: our bit alone
 abbrev pub announcedHeader : Config → (seq : ℕ) → Header
 announcedHeader config seq = headerOfDay config (config .own) seq (insert 0 (config .own))
 
 module _ (config : Config) (payload records out : List ℕ) where
-  -- "announcing 1, 9, 10, 20, 21, 25": 21 and 25 are those of the search
+  -- R7.1: what is tested before the search, which has 21 and 25
   unfoldable pub broadcastReasons : List Reason
   broadcastReasons =
       (1 if not (good config))
@@ -45,7 +45,7 @@ module _ (config : Config) (payload records out : List ℕ) where
       ∷ (20 if wrongSize config records)
       ∷ []
 
-  -- it gives the number
+  -- R7.3: the answer is the sequence number
   unfoldable pub broadcast : Outcome ℕ
   broadcast = checked broadcastReasons and-then (λ _. search config records 0 slots)
 
@@ -55,17 +55,16 @@ module _ (config : Config) (payload records out : List ℕ) where
   unfoldable pub broadcastOut : List ℕ
   broadcastOut = after broadcast (λ seq. bundleOf (announcedHeader config seq) payload) out
 
--- the paper's number and values for each case
+-- the number and values of each case (R17.3)
 abbrev pub announcementOf : Announcement → Outcome ℕ
 announcementOf (Announced seq) = done seq
 announcementOf (Refused reason) = refused (numberOf reason)
 
--- the count that goes with an announcement's answer: our bit alone; "A refusal returns its number, with count 0"
+-- the count that goes with the answer: 1 (R7.3), and 0 with a refusal (R5.1)
 abbrev pub announcementCount : Announcement → ℕ
 announcementCount (Announced seq) = 1
 announcementCount (Refused reason) = 0
 
--- it is the number of signers in the record that announcing stores, as for a receipt: "The answer also has the number of signers in the record
--- afterwards."
+-- as in a receipt (R8.8), it is how many signers the record stored has
 abbrev pub AnnouncedCounts : Type 0
 AnnouncedCounts = (own seq : ℕ) (payload : List ℕ) → own < 64 → announcementCount (Announced seq) ≡ signers.size (signersOf (announcedBy own payload))

@@ -1,5 +1,5 @@
--- How receiving differs from Algorithm 1, each difference a law of the call. protocol's specs/Differences.antt has them on values, and system's those of a
--- whole list of calls. They are proved in proofs/Differences.antt.
+-- How receiving differs from Algorithm 1 (R13.3, R13.4), each difference a law of the call. protocol's specs/Differences.antt has them on values, and
+-- system's those of a whole list of calls. They are proved in proofs/Differences.antt.
 -- Assumes nothing.
 use mathlib.Core.Path.{_≡_}
 use mathlib.Core.Bool.{true}
@@ -22,15 +22,16 @@ module _ (config : Config) (bundle records out : List ℕ) (h : Header) (result 
     pub accepted : read config bundle ≡ done h
     pub answered : receive config bundle records out ≡ done result
 
--- Where the record holds another payload, this bundle alone brings a quorum. Its payload is delivered, and the record has its signers and no others.
+-- R8.4, R13.3: where the record holds another payload, this bundle alone brings a quorum. Its payload is delivered, and the record has its signers and no
+-- others.
 abbrev pub OtherNeedsQuorum : Type 0
 OtherNeedsQuorum =
     (config : Config) (bundle records out : List ℕ) (h : Header) (result : Update) → AnsweredReceive config bundle records out h result
     → holdsOther (recordOf config (slotOf h) records) (payloadPart config bundle) ≡ true
     → (quorum config ≤ size (h .signers)) × (result ≡ record { answer = delivered; newRecord = Delivered (h .signers) (payloadPart config bundle) })
 
--- Where the record is empty and the bundle is delivered, so that it is signed in the same step, the outgoing bytes are one bundle, with our signature in
--- it. The paper sends that bundle twice.
+-- R13.4: where the record is empty and the bundle is delivered, so that it is signed in the same step, the outgoing bytes are one bundle, with our signature
+-- in it. The algorithm sends that bundle twice.
 abbrev pub OneBundleForBoth : Type 0
 OneBundleForBoth =
     (config : Config) (bundle records out : List ℕ) (h : Header) (result : Update) → AnsweredReceive config bundle records out h result

@@ -1,5 +1,5 @@
--- What announcing finds among our sixteen records, said without the search that finds it: three laws of an answer, that each of the three decides where
--- announcing comes to search, and that one of them always holds. They are proved in proofs/FreeNumber.antt.
+-- R7.2: what broadcasting finds among our sixteen records, said without the search that finds it: three laws of an answer, that each of the three decides
+-- where broadcasting comes to search, and that one of them always holds. They are proved in proofs/FreeNumber.antt.
 -- Assumes nothing.
 use mathlib.Core.Path.{_≡_}
 use mathlib.Core.Logic.{_⊎_}

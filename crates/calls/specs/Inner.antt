@@ -32,7 +32,7 @@ settledRecords start received records = after received (λ result. replaced star
 unfoldable pub settledOut : Slot → Outcome (Answer × List ℕ) → (out : List ℕ) → List ℕ
 settledOut slot received out = after received (λ result. cond (sends (result .0)) (sent slot (result .1)) out) out
 
--- sets and quorum are those of the table
+-- sets and quorum are those of the configuration
 abbrev pub SetsOf : Config → ℕ → ℕ → ℕ → Type 0
 SetsOf config all q ours = (all ≡ below (config .n)) × ((q ≡ quorum config) × (ours ≡ insert 0 (config .own)))
 
@@ -47,7 +47,7 @@ scanned config rest (suc left) =
 unfoldable pub foundOf : ℕ → Outcome ℕ
 foundOf number = cond (ltb number slots) (done number) (cond (eqb number slots) (refused 25) (refused 21))
 
--- for a table with these sets and this quorum, it is what the search over all that is left finds
+-- for a configuration with these sets and this quorum, it is what the search over all that is left finds
 abbrev pub Found : ℕ → ℕ → ℕ → List ℕ → ℕ → Type 0
 Found all q ours rest number = (config : Config) → SetsOf config all q ours → foundOf number ≡ scanned config rest (length rest / recordSize)
 

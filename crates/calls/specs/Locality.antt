@@ -1,6 +1,5 @@
--- Document 01, "Calls": "A call on a slot changes the 32 bytes of that record alone. Its answer depends on the table, the slot, bundle or body given,
--- that record and the buffers' lengths; announcing depends besides on our earlier own records." As laws: two calls that agree on these agree
--- on the answer. They are proved in proofs/Locality.antt.
+-- What a call changes among the records (R12.1), and what its answer depends on (R12.2): two calls that agree on that agree on the answer. They are proved in
+-- proofs/Locality.antt.
 -- Assumes nothing.
 use mathlib.Core.Path.{_≡_}
 use mathlib.Core.Logic.{_⊎_}
@@ -22,7 +21,7 @@ use Rattle.calls.specs.Broadcast.{broadcast, broadcastRecords, broadcast
 use Rattle.calls.specs.Receive.{receive, receiveRecords, receiveOut}
 use Rattle.calls.specs.Showing.{delivered, deliveredPart}
 
--- ---- what a call changes
+-- ---- what a call changes: R12.1
 
 -- the buffers are equally long, and agree at every byte that is not one of the slot's record
 pub record OnlyRecord (config : Config) (slot : Slot) (before after : List ℕ) : Type 0 where
@@ -40,13 +39,13 @@ ReceiveChanges =
     (config : Config) (bundle records out : List ℕ)
     → OnlyRecord config (slotIn bundle) records (receiveRecords config bundle records out)
 
--- ---- what an answer depends on
+-- ---- what an answer depends on: R12.2
 
--- opening: the table and the buffer's length
+-- opening: the configuration and the buffer's length
 abbrev pub OpenDepends : Type 0
 OpenDepends = (config : Config) (records others : List ℕ) → length records ≡ length others → plain (opened config records) ≡ plain (opened config others)
 
--- Receiving: the table, the bundle, the slot's record and the lengths. The outcome has the answer and the record afterwards, so the count and the
+-- Receiving: the configuration, the bundle, the slot's record and the lengths. The outcome has the answer and the record afterwards, so the count and the
 -- bytes stored too; what is sent is the same over any outgoing bytes.
 abbrev pub ReceiveDepends : Type 0
 ReceiveDepends =
@@ -79,7 +78,7 @@ BroadcastOwn =
     → ((k : ℕ) → k < slots → recordAt config (ownSlot config k) records ≡ recordAt config (ownSlot config k) others)
     → broadcast config payload records out ≡ broadcast config payload others other
 
--- showing: the table, the slot, its record and the length
+-- showing: the configuration, the slot, its record and the length
 abbrev pub DeliveredDepends : Type 0
 DeliveredDepends =
     (config : Config) (slot : Slot) (records others : List ℕ) → length records ≡ length others

@@ -1,4 +1,4 @@
--- Document 01, "Calls": "Opening a day leaves every byte zero in the buffer."
+-- R6.1: opening a day makes every byte of the records zero.
 -- Assumes nothing.
 use mathlib.Core.Bool.{not}
 use mathlib.Core.List.{List, [], _∷_}
@@ -10,7 +10,7 @@ use Rattle.config.specs.Config.{good}
 use Rattle.calls.specs.Records.{wrongSize}
 
 module _ (config : Config) (records : List ℕ) where
-  -- "Opening uses 1, 20"
+  -- what it tests
   unfoldable pub openReasons : List Reason
   openReasons = (1 if not (good config)) ∷ (20 if wrongSize config records) ∷ []
 

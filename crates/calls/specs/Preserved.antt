@@ -34,8 +34,8 @@ abbrev pub SameShown : Config → Slot → (first second : List ℕ) → Type 0
 SameShown config slot first second =
     (delivered config slot first ≡ delivered config slot second) × (deliveredPart config slot first ≡ deliveredPart config slot second)
 
--- Opening makes every record well-formed, which document 01 calls sound. Broadcasting and receiving leave each record so that was so, whatever the others
--- are, and all three leave the buffer its length. That no call is then refused by 21 is `NeverMalformed` of system's specs/Order.antt.
+-- R4.6: opening makes every record well-formed. Broadcasting and receiving leave each record so that was so, whatever the others are, and all three leave the
+-- buffer its length. That no call is then refused by 21 is `NeverMalformed` of system's specs/Order.antt.
 abbrev pub CallsKeepWellFormed : Type 0
 CallsKeepWellFormed =
     (config : Config) (records : List ℕ) → good config ≡ true → length records ≡ recordsSize config
@@ -45,7 +45,7 @@ CallsKeepWellFormed =
     × ((bundle out : List ℕ)
     → StaysWellFormed config records (receiveRecords config bundle records out) × (length (receiveRecords config bundle records out) ≡ length records))
 
--- "Showing gives the delivered body": after a receive that is answered delivered, showing its slot gives the payload of the bundle given.
+-- R9.3: after a receive that is answered delivered, showing its slot gives the payload of the bundle given,
 abbrev pub DeliveredIsShown : Type 0
 DeliveredIsShown =
     (config : Config) (bundle records out : List ℕ) (h : Header) (result : Update)
@@ -53,7 +53,7 @@ DeliveredIsShown =
     → (delivered config (slotOf h) (receiveRecords config bundle records out) ≡ done (place config (slotOf h) + payloadAt))
     × (deliveredPart config (slotOf h) (receiveRecords config bundle records out) ≡ payloadPart config bundle)
 
--- And it stays shown: broadcasting and receiving leave what showing answers and gives.
+-- and it stays shown: broadcasting and receiving leave what showing answers and gives.
 abbrev pub ShownStays : Type 0
 ShownStays =
     (config : Config) (records : List ℕ) (slot : Slot) (start : ℕ) → delivered config slot records ≡ done start

@@ -1,5 +1,5 @@
--- Document 01, "Calls", taking a bundle. What it does to the slot's record is the update of protocol's specs/Update.antt; here are the refusals
--- before it, and what becomes of the two buffers.
+-- RULES section 8: receiving a bundle, called taking in the formats. What it does to the slot's record (R8.2 to R8.6) is the update of protocol's
+-- specs/Update.antt; here are the refusals before it, and what becomes of the two buffers.
 -- Assumes nothing.
 use mathlib.Core.Bool.{not, cond}
 use mathlib.Core.List.{List, [], _∷_}
@@ -25,7 +25,7 @@ unfoldable pub recordBundle : Slot → Record → List ℕ
 recordBundle slot r = bundleOf (headerOf slot (signersOf r)) (payloadOf r)
 
 module _ (config : Config) (bundle records out : List ℕ) where
-  -- "taking 1-8, 10, 20-24": 1-8 are reading's, and 22-24 those of the update
+  -- R8.1: what is tested after reading, which has 1 to 8, and before the update, which has 22 to 24
   unfoldable pub receiveReasons : Header → List Reason
   receiveReasons h =
       (10 if not (eqb (length out) bundleSize))
@@ -42,22 +42,22 @@ module _ (config : Config) (bundle records out : List ℕ) where
   unfoldable pub receiveRecords : List ℕ
   receiveRecords = after receive (λ result. stored config (slotIn bundle) (encoding (result .newRecord)) records) records
 
-  -- 5. "The outgoing bytes receive the record's bundle if the answer is signed or delivered; at kept they stay."
+  -- R8.7: with an answer that sends, signed or delivered, the new record's bundle; at kept the outgoing bytes stay
   unfoldable pub receiveOut : List ℕ
   receiveOut = after receive (λ result. cond (sends (result .answer)) (recordBundle (slotIn bundle) (result .newRecord)) out) out
 
--- "The answer also has the number of signers in the record afterwards."
+-- R8.8: the answer, with how many signers the record then has
 unfoldable pub reported : Update → Answer × ℕ
 reported result = (result .answer, signers.size (signersOf (result .newRecord)))
 
--- the paper's answer and count for each case, or the number of the refusal
+-- answer and count of each case, or the number of the refusal (R17.3)
 abbrev pub receiptOf : Receipt → Outcome (Answer × ℕ)
 receiptOf (Kept count) = done (kept, count)
 receiptOf (Signed count) = done (signed, count)
 receiptOf (Delivered count) = done (delivered, count)
 receiptOf (Refused reason) = refused (numberOf reason)
 
--- "A refusal returns its number, with count 0"
+-- R5.1: the count is 0 with a refusal
 abbrev pub receiptCount : Receipt → ℕ
 receiptCount (Kept count) = count
 receiptCount (Signed count) = count

@@ -1,4 +1,4 @@
--- Document 01, "Bundle and record": "The records of a day lie in one lent buffer": one record of it, and another stored in its place.
+-- R4.2 and R4.3: the buffer with the records of a day: one record of it, and another stored in its place.
 -- Assumes nothing.
 use mathlib.Core.Bool.{Bool, not}
 use mathlib.Core.List.{List, _++_}
@@ -26,6 +26,6 @@ replaced start bytes records = take start records ++ (bytes ++ drop (start + rec
 unfoldable pub stored : Config → Slot → (bytes records : List ℕ) → List ℕ
 stored config slot bytes records = replaced (place config slot) bytes records
 
--- "20 record buffer not 512 × n bytes"
+-- R5.5: 20 applies
 abbrev pub wrongSize : Config → List ℕ → Bool
 wrongSize config records = not (eqb (length records) (recordsSize config))

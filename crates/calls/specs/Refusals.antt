@@ -1,5 +1,5 @@
--- A refusal changes nothing, whichever call it is of, and counts nothing; and when 7 never comes. bundle's specs/Refusals.antt has the same of reading and
--- writing. They are proved in proofs/NoEffect.antt.
+-- R5.1: a refusal changes nothing, whichever call it is of, and counts nothing. R5.6: when 7 never comes. bundle's specs/Refusals.antt has the same of
+-- reading and writing. They are proved in proofs/NoEffect.antt.
 -- Assumes nothing.
 use mathlib.Core.Path.{_≡_}
 use mathlib.Core.List.{List, []}
@@ -29,7 +29,7 @@ RefusedReceiveChangesNothing =
     (config : Config) (bundle records out : List ℕ) (number : ℕ) → receive config bundle records out ≡ refused number
     → (receiveRecords config bundle records out ≡ records) × (receiveOut config bundle records out ≡ out)
 
--- Showing has no buffer to change, and gives the empty part at the records' start.
+-- R9.2: showing has no buffer to change, and gives the empty part at the records' start.
 abbrev pub RefusedShowingGivesNothing : Type 0
 RefusedShowingGivesNothing =
     (config : Config) (slot : Slot) (records : List ℕ) (number : ℕ) → delivered config slot records ≡ refused number

@@ -1,5 +1,5 @@
--- Document 01, "Calls": "Showing gives the delivered body as a part of the lent buffer, the 16 bytes of that record; on refusal, the empty part
--- at its start."
+-- RULES section 9: showing gives the payload that was delivered in a slot as the part of the records where it stands; where it refuses, the empty part at their
+-- start.
 -- Assumes nothing.
 use mathlib.Core.Bool.{not}
 use mathlib.Core.List.{List, [], _∷_}
@@ -16,7 +16,7 @@ use Rattle.record.specs.Record.{wellFormed, decoded, payloadAt}
 use Rattle.calls.specs.Records.{recordAt, wrongSize}
 
 module _ (config : Config) (slot : Slot) (records : List ℕ) where
-  -- "showing 1, 5, 6, 20, 21, 26"
+  -- R9.1: what it tests
   unfoldable pub deliveredReasons : List Reason
   deliveredReasons =
       (1 if not (good config))
@@ -27,7 +27,7 @@ module _ (config : Config) (slot : Slot) (records : List ℕ) where
       ∷ (26 if not (isDelivered (decoded (recordAt config slot records))))
       ∷ []
 
-  -- it gives the place of the payload
+  -- R9.2: it gives the place of the payload
   unfoldable pub delivered : Outcome ℕ
   delivered = unless deliveredReasons (place config slot + payloadAt)
 

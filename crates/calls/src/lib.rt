@@ -1,7 +1,7 @@
-// The calls of a node: opening a day, broadcasting, receiving, and showing what was delivered.
+// R1.1: the calls of a node: opening a day, broadcasting, receiving, and showing what was delivered.
 //
-// Each is defined for all bytes, lengths and numbers over the buffers that it is given. It refuses by the
-// first reason of document 01 that applies, and then leaves every byte as it is.
+// Each is defined for all bytes, lengths and numbers over the buffers that it is given (R1.4). It refuses by
+// the first reason that applies (R5.2), and then leaves every byte as it is (R5.1).
 use bundle::Header;
 use bundle::Reading;
 use config::Config;
@@ -25,13 +25,13 @@ ghost use Rattle.calls.specs.Receive.{receive as receiveOf, receiveRecor
 ghost use Rattle.calls.specs.Showing.{delivered as deliveredOf, deliveredPart, deliveredPlace};
 ghost use Rattle.calls.specs.Inner.{Found, settledReceipt, settledRecords, settledOut, numberIn, sent};
 
-// The answer of broadcasting: the sequence number used.
+// The answer of broadcasting: the sequence number used (R7.3).
 pub enum Announcement {
     Announced(u8),
     Refused(Refusal),
 }
 
-// The answer of receiving, with the number of signers in the record afterwards.
+// The answer of receiving (R8.6), with how many signers the record then has (R8.8).
 pub enum Receipt {
     Kept(u32),
     Signed(u32),
@@ -40,7 +40,7 @@ pub enum Receipt {
 }
 
 impl Announcement {
-    // How many signers the record has: the node itself, and none after a refusal.
+    // R7.3: how many signers the record has: the node itself, and none after a refusal (R5.1).
     pub fn count(self) -> u32
         ensures { λ r. ⌜ r ≡ announcementCount self ⌝ }
     {
@@ -52,7 +52,7 @@ impl Announcement {
 }
 
 impl Receipt {
-    // How many signers the record has afterwards; none is told after a refusal.
+    // R8.8: how many signers the record has afterwards; 0 after a refusal (R5.1).
     pub fn count(self) -> u32
         ensures { λ r. ⌜ r ≡ receiptCount self ⌝ }
     {
@@ -65,7 +65,7 @@ impl Receipt {
     }
 }
 
-// Opens the day: makes every record empty.
+// R6.1: opens the day. Every record becomes empty.
 pub fn open(config: Config, records: &mut [u8]) -> Verdict
     ensures { λ r. ⌜ verdictOf r ≡ plain (opened config (now (records .entry))) ⌝ }
     ensures { λ _. ⌜ now (records .exit) ≡ openRecords config (now (records .entry)) ⌝ }
@@ -80,8 +80,8 @@ pub fn open(config: Config, records: &mut [u8]) -> Verdict
     Verdict::Done
 }
 
-// Signs a payload of our own, keeps it under our lowest free number and writes its bundle to `out`. What
-// is announced is to be sent. Delivery comes by receiving alone.
+// R7.3: signs a payload of our own, keeps it under our lowest free number and writes its bundle to `out`.
+// What is announced is to be sent. Delivery comes by receiving alone (R7.4).
 pub fn broadcast(config: Config, payload: &[u8], records: &mut [u8], out: &mut [u8]) -> Announcement
     ensures { λ r. ⌜ announcementOf r ≡ broadcastOf config (now (payload .entry)) (now (records .entry)) (now (out .entry)) ⌝ }
     ensures { λ _. ⌜ now (records .exit) ≡ broadcastRecords config (now (payload .entry)) (now (records .entry)) (now (out .entry)) ⌝ }
@@ -126,8 +126,8 @@ pub fn broadcast(config: Config, payload: &[u8], records: &mut [u8], out: &mut [
     Announcement::Announced(seq)
 }
 
-// Receives a bundle that came in. What is answered signed or delivered is to be sent: `out` then has the
-// bundle of the record.
+// R8.1: receives a bundle that came in. What is answered signed or delivered is to be sent: `out` then has
+// the bundle of the record (R8.7).
 pub fn receive(config: Config, bundle: &[u8], records: &mut [u8], out: &mut [u8]) -> Receipt
     ensures { λ r. ⌜ receiptOf r ≡ (receiveOf config (now (bundle .entry)) (now (records .entry)) (now (out .entry)) and-then λ result. done (reported result)) ⌝ }
     ensures { λ _. ⌜ now (records .exit) ≡ receiveRecords config (now (bundle .entry)) (now (records .entry)) (now (out .entry)) ⌝ }
@@ -151,7 +151,7 @@ pub fn receive(config: Config, bundle: &[u8], records: &mut [u8], out: &mut [u8]
     settle(header, start, received, records, out)
 }
 
-// Whether the slot is delivered, or why it cannot be shown.
+// R9.1: whether the slot is delivered, or why it cannot be shown.
 pub fn check_delivered(config: Config, sender: u8, seq: u8, records: &[u8]) -> Verdict
     ensures { λ r. ⌜ verdictOf r ≡ plain (deliveredOf config (slotOfDay config sender seq) (now (records .entry))) ⌝ }
 {
@@ -177,8 +177,8 @@ pub fn check_delivered(config: Config, sender: u8, seq: u8, records: &[u8]) -> V
     Verdict::Done
 }
 
-// The delivered payload as a part of the records that the caller gave; the empty part at their start where
-// `check_delivered` refuses.
+// R9.2: the delivered payload as a part of the records that the caller gave; the empty part at their start
+// where `check_delivered` refuses.
 pub fn delivered(config: Config, sender: u8, seq: u8, records: &[u8]) -> &[u8]
     ensures { λ r. ⌜ now r ≡ deliveredPart config (slotOfDay config sender seq) (now (records .entry)) ⌝ }
     ensures { λ r. ⌜ r .ptr ≡ advance (deliveredPlace config (slotOfDay config sender seq) (now (records .entry))) (records .entry .ptr) ⌝ }
@@ -198,9 +198,9 @@ const NONE_FREE: u8 = config::SLOTS;
 
 const MALFORMED: u8 = config::SLOTS + 1;
 
-// The number of the first record that is empty in `rest`, the last of our sixteen, if all before it are
-// well-formed. It looks at one and calls itself for the rest. The answer is a number, and the rest a part of
-// its own: an enum, or the slice as it came, would be copied in memory at each of the sixteen.
+// R7.2: the number of the first record that is empty in `rest`, the last of our sixteen, if all before it
+// are well-formed. It looks at one and calls itself for the rest (R17.9). The answer is a number, and the rest
+// a part of its own: an enum, or the slice as it came, would be copied in memory at each of the sixteen.
 fn search(all: u64, quorum: u32, ours: u64, rest: &[u8]) -> u8
     requires { ⌜ length (now rest) % recordSize ≡ 0 ⌝ }
     requires { ⌜ length (now rest) ≤ recordSize * slots ⌝ }

@@ -1,6 +1,6 @@
 -- What `good` says, and what of the quorum the protocol's argument rests on. Callers go by these laws and not by the formulas.
--- The argument on values rests on `quorum-intersects` and `quorum-reachable`, and demand 3 on `quorum-shared` besides: another quorum within the same
--- bounds, and the same at all nodes, would meet them. `quorum-strict` is about the source's own quorum.
+-- The argument on values rests on `quorum-intersects` and `quorum-reachable` (R2.8), and the claim of RULES section 14 on `quorum-shared` besides: another
+-- quorum within the same bounds, and the same at all nodes, would meet them. `quorum-strict` is about the quorum of Algorithm 1 (R13.7).
 -- Assumes nothing.
 use mathlib.Core.Path.{_≡_, refl, ap, ap₂, _∙_}
 use mathlib.Core.Bool.{Bool, true, false, and-eq-true-iff}
@@ -115,7 +115,7 @@ pub mask-members : (config : Config) (node : ℕ) → good config ≡ true → m
 unfolding mask
 mask-members config node e = rw e (member-ones (config .n) node)
 
--- twice a quorum is more than n + t, so that two quorums share more than t nodes
+-- R2.8: twice a quorum is more than n + t, so that two quorums share more than t nodes
 pub quorum-intersects : (config : Config) → good config ≡ true → config .n + config .t < quorum config + quorum config
 unfolding quorum
 quorum-intersects config e = rw e (omega arith)
@@ -127,17 +127,17 @@ pub signers-share-correct : (config : Config) (a b : ℕ) (faulty : NodeSet) →
 signers-share-correct config a b faulty g ha hb few qa qb =
     words-share-correct a b (config .n) (config .t) (quorum config) faulty ha hb (quorum-intersects config g) few qa qb
 
--- the correct nodes that every sending reaches are a quorum by themselves: q is at most n - t - d
+-- R2.8: the correct nodes that every sending reaches are a quorum by themselves: q is at most n - t - d
 pub quorum-reachable : (config : Config) → good config ≡ true → quorum config + config .t + config .d ≤ config .n
 unfolding quorum
 quorum-reachable config e = let g = good-says config e in rw e (omega arith)
 
--- a quorum is what the source calls strictly more than (n + t)/2
+-- R13.7: a quorum is what line 9 of Algorithm 1 asks for, strictly more than (n + t)/2
 pub quorum-strict : (config : Config) (k : ℕ) → good config ≡ true → leb (quorum config) k ≡ ltb (config .n + config .t) (k + k)
 unfolding quorum
 quorum-strict config k e = rw e (more-than-half (config .n + config .t) k)
 
--- configurations that differ in own number and day alone have one quorum
+-- good configurations with the same n and t have one quorum
 pub quorum-shared : (config other : Config) → config .n ≡ other .n → config .t ≡ other .t → good config ≡ true → good other ≡ true → quorum config ≡ quorum other
 unfolding quorum
 quorum-shared config other n t g h = rw (g, h, n, t)

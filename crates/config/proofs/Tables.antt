@@ -1,4 +1,4 @@
--- The ten tables of document 01, by one test computed over the list.
+-- The ten configurations of R2.7, by one test computed over the list.
 -- Assumes nothing.
 use mathlib.Core.Path.{_≡_, refl}
 use mathlib.Core.Bool.{Bool, true, _&&_, Bool·beq, and-eq-true-iff}

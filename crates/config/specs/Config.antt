@@ -1,4 +1,5 @@
--- Document 01, "Table": when a configuration, the paper's table, is good, and what it gives. The paper's n, t and d keep their letters.
+-- RULES section 2: when a configuration, called table in the formats, is good, and what it gives; and where a day's records lie (R4.2, R4.3). n is the
+-- number of nodes, t that of the faults borne, and d that of the correct nodes that one sending may miss (R2.1).
 -- Assumes nothing.
 use mathlib.Core.Bool.{Bool, cond, _&&_}
 use Prim.Native.Nat.{ℕ, _+_, _-_, _*_, _/_, _^_}
@@ -13,21 +14,21 @@ configFor n t d day = record { n = n; t = t; d = d; own = 0; day = day }
 unfoldable pub withOwn : Config → (own : ℕ) → Config
 withOwn config own = record { n = config .n; t = config .t; d = config .d; own = own; day = config .day }
 
--- "It is good when n is 1 to 64, n > 3t + 2d and own < n."
+-- R2.2: there are 1 to 64 nodes, more than 3t + 2d, and we are one of them
 unfoldable pub good : Config → Bool
 good config = leb 1 (config .n) && leb (config .n) 64 && ltb (3 * config .t + 2 * config .d) (config .n) && ltb (config .own) (config .n)
 
--- "The quorum q is the whole part of (n + t)/2, plus 1"; "each is 0 if the table is not good"
+-- R2.3: half of n + t, the fraction dropped, plus 1; 0 if the configuration is not good (R2.5)
 unfoldable pub quorum : Config → ℕ
 quorum config = cond (good config) ((config .n + config .t) / 2 + 1) 0
 
--- the mask of all nodes: bits 0 to n - 1
+-- R2.4: the word of all nodes, bits 0 to n - 1; 0 if the configuration is not good (R2.5)
 unfoldable pub mask : Config → ℕ
 mask config = cond (good config) (2 ^ config .n - 1) 0
 
 -- ---- slots
 
--- "A slot is a day, a sender 0 to n - 1 and a number 0 to 15."
+-- R2.6: a sender has 16 sequence numbers a day. A slot is in range if it has one of them and a node as its sender; its day is not looked at.
 abbrev pub slots : ℕ
 slots = 16
 
@@ -42,18 +43,18 @@ slotOfDay config sender seq = record { day = config .day; sender = sender; seq =
 unfoldable pub sameSlot : Slot → Slot → Bool
 sameSlot first second = eqb (first .day) (second .day) && (eqb (first .sender) (second .sender) && eqb (first .seq) (second .seq))
 
--- "Both have 32 bytes": a record
+-- R4.1: how many bytes a record has
 abbrev pub recordSize : ℕ
 recordSize = 32
 
--- "sender s, number k starts at 32 × (16 × s + k)"
+-- R4.3: where the slot's record starts. The records lie sender by sender, and those of a sender number by number.
 unfoldable pub slotPlace : Slot → ℕ
 slotPlace slot = recordSize * (slots * slot .sender + slot .seq)
 
--- the place is 0 if the configuration is not good, and for a sender or a number out of range
+-- R2.4: the same for a slot in range of a good configuration; 0 for any other (R2.5)
 unfoldable pub place : Config → Slot → ℕ
 place config slot = cond (good config && inRange config slot) (slotPlace slot) 0
 
--- "The records of a day lie in one lent buffer of 512 × n bytes"
+-- R4.2: how many bytes the records of a day have
 unfoldable pub recordsSize : Config → ℕ
 recordsSize config = recordSize * slots * config .n

@@ -1,5 +1,4 @@
--- Document 01, "Table": the ten tables listed under the quorum, each with own number 0, and what is claimed of each of them. It is
--- proved in proofs/Tables.antt.
+-- R2.7: ten configurations, each with own number 0, and what is claimed of each of them. It is proved in proofs/Tables.antt.
 -- Assumes nothing.
 use mathlib.Core.Path.{_≡_}
 use mathlib.Core.Bool.{Bool, true, false}
@@ -8,7 +7,7 @@ use Prim.Native.Nat.{ℕ}
 use Rattle.config.specs.declared.Config.{Config}
 use Rattle.config.specs.Config.{configFor, good, quorum}
 
--- a row of the list: n, t and d, whether the table is good, and its quorum, 0 where it is bad
+-- a row of the list: n, t and d, whether the configuration is good, and its quorum, 0 where it is not
 pub record Row : Type 0 where
   pub n : ℕ
   pub t : ℕ
@@ -37,5 +36,6 @@ tables =
 abbrev pub rowConfig : (row : Row) (day : ℕ) → Config
 rowConfig row day = configFor (row .n) (row .t) (row .d) day
 
+-- one fact that ranges over the list (R17.6)
 abbrev pub TablesHold : Type 0
 TablesHold = (row : Row) (day : ℕ) → List·Memᴰ row tables → (good (rowConfig row day) ≡ row .isGood) × (quorum (rowConfig row day) ≡ row .q)

@@ -1,9 +1,9 @@
-// The configuration that the nodes of a system share except for `own`: document 01's table. And the slots of a
-// day, with the place that each has in the day's records.
+// The configuration that the nodes of a system share except for `own`, called table in the formats (R2.1). And
+// the slots of a day, with the place that each has in the day's records.
 //
-// The methods take the configuration by value and are defined for every value of every field. One that is
-// not good has quorum 0, mask 0 and place 0. A caller asks `good` first: every set has a quorum of 0, and 0
-// is the place of a slot, too.
+// The methods take the configuration by value (R17.9) and are defined for every value of every field. One that
+// is not good has quorum 0, mask 0 and place 0 (R2.5). A caller asks `good` first: every set has a quorum of 0,
+// and 0 is the place of a slot, too.
 ghost use mathlib.Core.Path.{_≡_};
 ghost use Rattle.config.specs.Config.{good, quorum, mask, slotPlace, place, recordsSize, withOwn, slotOfDay};
 
@@ -13,16 +13,16 @@ pub const SLOTS: u8 = 16;
 // Bytes of one record, and so the distance from one slot's place to the next.
 pub const RECORD_SIZE: usize = 32;
 
-// What a broadcast has to itself: the sender's `seq`-th broadcast of a day.
+// R2.6: what a broadcast has to itself. It is the sender's `seq`-th of the day, counted from 0.
 pub struct Slot {
     pub day: u32,
     pub sender: u8,
-    // document 01's number
+    // the sequence number, called number in the formats
     pub seq: u8,
 }
 
 impl Slot {
-    // Where the slot's record starts among the records of its day.
+    // R4.3: where the slot's record starts among the records of its day.
     pub fn place(self) -> usize
         ensures { λ r. ⌜ r ≡ slotPlace self ⌝ }
     {
@@ -43,7 +43,7 @@ pub struct Config {
 }
 
 impl Config {
-    // Whether the protocol can run on this configuration. No call works on one that is not good.
+    // R2.2: whether the protocol can run on this configuration. No call works on one that is not good.
     pub fn good(self) -> bool
         ensures { λ r. ⌜ r ≡ good self ⌝ }
     {
@@ -62,7 +62,7 @@ impl Config {
         true
     }
 
-    // How many signers make a payload deliverable.
+    // R2.3: how many signers deliver a payload.
     pub fn quorum(self) -> u32
         ensures { λ r. ⌜ r ≡ quorum self ⌝ }
     {
@@ -72,7 +72,7 @@ impl Config {
         (self.n as u32 + self.t as u32) / 2 + 1
     }
 
-    // The signer set of all nodes.
+    // R2.4: the signer set of all nodes.
     pub fn mask(self) -> u64
         ensures { λ r. ⌜ r ≡ mask self ⌝ }
     {
@@ -106,7 +106,7 @@ impl Config {
         }
     }
 
-    // The slot's place, or 0 for a sender or number out of range. The day is not looked at. A caller that has
+    // R2.4: the slot's place, or 0 for a slot that is not in range. The day is not looked at. A caller that has
     // made sure of the slot asks the slot itself.
     pub fn place(self, slot: Slot) -> usize
         ensures { λ r. ⌜ r ≡ place self slot ⌝ }
@@ -123,7 +123,7 @@ impl Config {
         slot.place()
     }
 
-    // How many bytes the records of a day take.
+    // R4.2: how many bytes the records of a day take: 512 × n, also where the configuration is not good.
     pub fn records_size(self) -> usize
         ensures { λ r. ⌜ r ≡ recordsSize self ⌝ }
     {

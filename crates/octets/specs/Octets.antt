@@ -1,4 +1,4 @@
--- Document 01, "Bundle and record": "integers with the high byte first". A slice of bytes is the list of its numbers.
+-- Bytes and the numbers that they write, high byte first (R3.1, R4.1). A slice of bytes is the list of its numbers.
 -- Assumes nothing.
 use mathlib.Core.Bool.{Bool, true, false, cond, _&&_}
 use mathlib.Core.List.{List, [], _∷_, _++_}

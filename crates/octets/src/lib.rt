@@ -1,4 +1,4 @@
-// Eight-byte words in slices of bytes, high byte first.
+// Eight-byte words in slices of bytes, high byte first (R3.1, R4.1).
 //
 // A word is read and written low byte first, from or to its reverse: in these shapes the compiler
 // joins the eight bytes into one load or store.

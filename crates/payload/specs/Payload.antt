@@ -1,4 +1,4 @@
--- A payload, document 01's body: any 16 bytes. As a value it is two eight-byte words.
+-- R3.4: a payload, called body in the formats, is any 16 bytes. As a value it is two eight-byte words.
 -- Assumes nothing.
 use mathlib.Core.Bool.{cond}
 use mathlib.Core.List.{List, _++_}

@@ -1,5 +1,5 @@
-// A payload as a value: its 16 bytes as two words, high byte first. The calls pass payloads on in this
-// form; bundles, records and run files have them as bytes.
+// A payload (R3.4) as a value: its 16 bytes as two words, high byte first. The calls pass payloads on in
+// this form; bundles, records and run files have them as bytes.
 ghost use mathlib.Core.Path.{_≡_};
 ghost use Rattle.octets.specs.Octets.{same as sameBytes};
 ghost use Rattle.payload.specs.Payload.{bytes, loaded};

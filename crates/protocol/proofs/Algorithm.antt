@@ -1,6 +1,6 @@
--- Demand 2, first sentence, on values: what specs/Algorithm.antt claims. Broadcasting on an empty record does what mbrb_broadcast does, and
--- receiving does what the algorithm does with the bundle, up to the differences of document 01. By cases on the record, then on the tests of
--- receiving. Assumes nothing.
+-- R13.1 on values: what specs/Algorithm.antt claims. Broadcasting on an empty record does what mbrb_broadcast does, and receiving does what the
+-- algorithm does with the bundle, up to the differences of R13.2 to R13.4. By cases on the record, then on the tests of receiving.
+-- Assumes nothing.
 use mathlib.Core.Path.{_≡_, refl, sym, ap, _∙_}
 use mathlib.Core.Logic.{inl, inr}
 use mathlib.Core.Bool.{Bool, true, false, cond, not, _&&_, and-false, true≢false}
@@ -51,7 +51,7 @@ broadcast-follows own m = (record { alike = λ x. rw (same-flip x m); signed-ali
 
 -- ---- receiving
 
--- The state is the paper's, of which only one message's signatures stay, and the effects are the paper's without the repeated bundle.
+-- The state is the algorithm's, of which only one message's signatures stay, and the effects are the algorithm's without the repeated bundle.
 abbrev Alike : List ℕ → Update → Run → Type 0
 Alike m result run = SameState (stateOf (result .newRecord)) (keepOne m (run .state)) × (effectsOf result ≡ sendOnce (run .effects))
 

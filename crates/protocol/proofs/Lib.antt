@@ -1,5 +1,5 @@
 -- What is proved of the protocol on values: the theorem about one slot, from the laws of traces and updates; that an update follows the
--- paper's algorithm, and where it differs; and that the theorem's bounds are tight.
+-- article's algorithm, and where it differs; and that the theorem's bounds are tight.
 pub mod CorrectNodes
 pub mod TraceLaws
 pub mod UpdateCases

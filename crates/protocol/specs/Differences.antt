@@ -1,5 +1,5 @@
 -- How receiving differs from Algorithm 1, each difference a law of its own: of one update, and of a trace of acts in one slot. specs/Algorithm.antt has the
--- same differences as functions beside the paper's lines. They are proved in proofs/Differences.antt.
+-- same differences as functions beside the article's lines. They are proved in proofs/Differences.antt.
 -- Assumes nothing.
 use mathlib.Core.Path.{_≡_}
 use mathlib.Core.Bool.{Bool, true, false, _&&_}
@@ -15,15 +15,15 @@ use Rattle.protocol.specs.OneSlot.{Act, Broadcast, Receive, signs, deliv
 
 -- ---- one update
 
--- A record that holds a payload takes another one only from a single bundle that brings a quorum for it. That one is then delivered, with the signers of
--- this bundle and no others.
+-- R8.4, R13.3: a record that holds a payload takes another one only from a single bundle that brings a quorum for it. That one is then delivered, with the
+-- signers of this bundle and no others.
 abbrev pub OtherNeedsQuorum : Type 0
 OtherNeedsQuorum =
     (own q signers : ℕ) (payload : List ℕ) (r : Record) (result : Update)
     → update own q signers payload r ≡ done result → holdsOther r payload ≡ true
     → (q ≤ size signers) × (result ≡ record { answer = delivered; newRecord = Delivered signers payload })
 
--- A node that signs and delivers in one step sends one bundle. The paper sends that bundle twice, at lines 7 and 10.
+-- R13.4: a node that signs and delivers in one step sends one bundle. The algorithm sends that bundle twice, at lines 7 and 10.
 abbrev pub OneBundleForBoth : Type 0
 OneBundleForBoth =
     (own q sender signers : ℕ) (payload : List ℕ) (result : Update) → member signers sender ≡ true
@@ -45,8 +45,8 @@ module _ (q : ℕ) where
   unfoldable pub deliversAtOnce : (payload : List ℕ) (own : ℕ) (act : Act) (r : Record) → Bool
   deliversAtOnce payload own act r = deliversThis q payload own act r && bringsQuorum act
 
--- A node holds one payload of a slot, the one that it signed there: it signs no second one, an empty record means that it signed none, a held one that it signed
--- the payload held, and a delivered one that it signed some payload.
+-- R13.2: a node holds one payload of a slot, the one that it signed there: it signs no second one, an empty record means that it signed none, a held one
+-- that it signed the payload held, and a delivered one that it signed some payload.
 pub record HoldsSigned (q : ℕ) (list : Trace Act) (u : ℕ) (r : Record) : Type 0 where
   pub signs-one : (first second : List ℕ) → ever q (signs q first) list u ≡ true → ever q (signs q second) list u ≡ true → first ≡ second
   pub empty : r ≡ Empty → (payload : List ℕ) → ever q (signs q payload) list u ≡ false
@@ -57,7 +57,7 @@ pub record HoldsSigned (q : ℕ) (list : Trace Act) (u : ℕ) (r : Record) : Typ
 abbrev pub OnePayloadHeld : Type 0
 OnePayloadHeld = (q : ℕ) (list : Trace Act) (u : ℕ) → u < 64 → HoldsSigned q list u (currentRecord q list u)
 
--- A payload that a node delivered and did not sign came to it in a single bundle with a quorum.
+-- R13.3: a payload that a node delivered and did not sign came to it in a single bundle with a quorum.
 abbrev pub OtherAtOnce : Type 0
 OtherAtOnce =
     (q : ℕ) (list : Trace Act) (u : ℕ) (payload : List ℕ) → u < 64

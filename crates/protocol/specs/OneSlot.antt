@@ -1,5 +1,5 @@
--- One slot at all correct nodes together, on values: the argument of demand 3. A trace has the acts in this slot and nothing else, so days, other
--- slots and the bytes of bundles and records do not occur in it. The quorum q is any number within the bounds of `Quorum`.
+-- One slot at all correct nodes together, on values: the argument of demand 3, the claim of RULES section 14. A trace has the acts in this slot and nothing
+-- else, so days, other slots and the bytes of bundles and records do not occur in it. The quorum q is any number within the bounds of `Quorum`.
 -- The theorem about the calls themselves is stated in the crate `system`, and rests on this one. It is proved in proofs/OneSlot.antt.
 -- Assumes nothing.
 use mathlib.Core.Path.{_≡_}
@@ -35,7 +35,7 @@ module _ (q : ℕ) where
   unfoldable pub recordAfter : (own : ℕ) (act : Act) (r : Record) → Record
   recordAfter own act r = after (outcome own act r) (λ result. result .newRecord) r
 
-  -- the node sends a bundle; it sends this bundle
+  -- R14.9: the node sends a bundle; it sends this bundle
   unfoldable pub sends : (own : ℕ) (act : Act) (r : Record) → Bool
   sends own act r = after (outcome own act r) (λ result. protocol.sends (result .answer)) false
 
@@ -45,14 +45,14 @@ module _ (q : ℕ) where
       (λ result. protocol.sends (result .answer) && (eqb (signersOf (result .newRecord)) signers && same (payloadOf (result .newRecord)) payload))
       false
 
-  -- the node signs the payload: it sends a bundle with the payload in which its own bit is set
+  -- R14.10: the node signs the payload: it sends a bundle with the payload in which its own bit is set
   unfoldable pub signs : (payload : List ℕ) (own : ℕ) (act : Act) (r : Record) → Bool
   signs payload own act r =
       after (outcome own act r)
       (λ result. protocol.sends (result .answer) && (same (payloadOf (result .newRecord)) payload && member (signersOf (result .newRecord)) own))
       false
 
-  -- the node delivers; it delivers this payload
+  -- R14.8: the node delivers; it delivers this payload
   unfoldable pub delivers : (own : ℕ) (act : Act) (r : Record) → Bool
   delivers own act r = after (outcome own act r) (λ result. protocol.delivers (result .answer)) false
 
@@ -60,7 +60,7 @@ module _ (q : ℕ) where
   deliversThis payload own act r =
       after (outcome own act r) (λ result. protocol.delivers (result .answer) && same (payloadOf (result .newRecord)) payload) false
 
-  -- the node broadcasts, and is not refused; it broadcasts this payload
+  -- R14.7: the node broadcasts, and is not refused; it broadcasts this payload
   unfoldable pub broadcasts : (own : ℕ) (act : Act) (r : Record) → Bool
   broadcasts own (Broadcast payload) r = isEmpty r
   broadcasts own (Receive signers payload) r = false
@@ -69,7 +69,7 @@ module _ (q : ℕ) where
   broadcastsThis payload own (Broadcast first) r = broadcasts own (Broadcast first) r && same first payload
   broadcastsThis payload own (Receive signers first) r = false
 
-  -- the node receives a bundle with these signers and this payload, whether it refuses it or not
+  -- R14.11: the node receives a bundle with these signers and this payload, whether it refuses it or not
   unfoldable pub receives : (signers : ℕ) (payload : List ℕ) (own : ℕ) (act : Act) (r : Record) → Bool
   receives signers payload own (Broadcast first) r = false
   receives signers payload own (Receive given first) r = eqb given signers && same first payload
@@ -86,11 +86,11 @@ module _ (q : ℕ) where
   abbrev pub times : (test : (own : ℕ) (act : Act) (r : Record) → Bool) (list : Trace Act) (node : ℕ) → ℕ
   times = trace.times (λ node. Empty) recordAfter
 
--- Of n nodes those of the set are faulty, and the others are correct.
+-- R14.1: of n nodes those of the set are faulty, and the others are correct.
 abbrev pub correct : (n : ℕ) (faulty : NodeSet) → NodeSet
 correct n faulty u = ltb u n && not (faulty u)
 
--- What the argument asks of the quorum, where at most t nodes are faulty and a sending may miss d correct nodes.
+-- R2.8: what the argument asks of the quorum, where at most t nodes are faulty and a sending may miss d correct nodes. A word of signers has 64 bits.
 pub record Quorum (n t d q : ℕ) : Type 0 where
   pub fits : n ≤ 64
   pub intersects : n + t < q + q
@@ -98,7 +98,7 @@ pub record Quorum (n t d q : ℕ) : Type 0 where
 
 module _ (n q sender : ℕ) (faulty : NodeSet) where
   -- Only the sender broadcasts. A bundle that is received has its sender's signature, no signer that is not a node, and a correct node's signature
-  -- only if that node signed this payload by an earlier act.
+  -- only if that node signed this payload by an earlier act (R14.6).
   abbrev pub Allowed : (earlier : Trace Act) (u : ℕ) (act : Act) → Type 0
   Allowed earlier u (Broadcast payload) = u ≡ sender
   Allowed earlier u (Receive signers payload) =
@@ -118,43 +118,43 @@ module _ (n q sender : ℕ) (faulty : NodeSet) where
       pub few : count faulty n ≤ t
       pub lawful : Lawful list
 
-    -- the set has at least c - d of the c correct nodes
+    -- R14.12: the set has at least c - d of the c correct nodes
     abbrev pub NearlyAll : (p : NodeSet) → Type 0
     NearlyAll p = count (correct n faulty) n ≤ d + count (both (correct n faulty) p) n
 
-    -- every bundle that a correct node sent was received by at least c - d correct nodes
+    -- the premise of R14.17: every bundle that a correct node sent was received by at least c - d correct nodes
     abbrev pub Reached : Type 0
     Reached =
         (u signers : ℕ) (payload : List ℕ) → correct n faulty u ≡ true → ever q (sendsThis q signers payload) list u ≡ true
         → NearlyAll (ever q (receives q signers payload) list)
 
-    -- no two correct nodes deliver different payloads
+    -- R14.13: no two correct nodes deliver different payloads
     abbrev pub Agreement : Type 0
     Agreement =
         (u v : ℕ) (first second : List ℕ) → correct n faulty u ≡ true → correct n faulty v ≡ true
         → ever q (deliversThis q first) list u ≡ true → ever q (deliversThis q second) list v ≡ true
         → first ≡ second
 
-    -- no node delivers twice
+    -- R14.14: no node delivers twice
     abbrev pub DeliversOnce : Type 0
     DeliversOnce = (u : ℕ) → times q (delivers q) list u ≤ 1
 
-    -- what is delivered in a correct sender's slot is what the sender broadcast there
+    -- R14.15: what is delivered in a correct sender's slot is what the sender broadcast there,
     abbrev pub Validity : Type 0
     Validity =
         (u : ℕ) (payload : List ℕ) → correct n faulty u ≡ true → correct n faulty sender ≡ true
         → ever q (deliversThis q payload) list u ≡ true
         → ever q (broadcastsThis q payload) list sender ≡ true
 
-    -- no node broadcasts twice
+    -- and no node broadcasts twice
     abbrev pub BroadcastsOnce : Type 0
     BroadcastsOnce = (u : ℕ) → times q (broadcasts q) list u ≤ 1
 
-    -- no node sends more than two bundles
+    -- R14.16: no node sends more than two bundles
     abbrev pub SendsAtMostTwice : Type 0
     SendsAtMostTwice = (u : ℕ) → times q (sends q) list u ≤ 2
 
-    -- what the correct sender broadcast, and what some correct node delivered, at least c - d correct nodes deliver
+    -- R14.17: what the correct sender broadcast, and what some correct node delivered, at least c - d correct nodes deliver
     abbrev pub Delivery : Type 0
     Delivery =
         (u : ℕ) (payload : List ℕ) → correct n faulty u ≡ true

@@ -1,6 +1,6 @@
--- What the theorem of specs/OneSlot.antt assumes of the quorum's two bounds, faults, signatures and reaching cannot be left out: for each there is a trace that keeps every
--- other premise and at which a conclusion fails. And what it concludes on sending is exact. They are proved in proofs/Tight.antt, by traces that are written
--- out and computed. That n is at most 64 is for the word of signers, which has no bit for more.
+-- What the theorem of specs/OneSlot.antt assumes of the quorum's two bounds, and of faults, signatures and reaching (R14.19), cannot be left out: for each
+-- there is a trace that keeps every other premise and at which a conclusion fails. And what it concludes on sending is exact. They are proved in
+-- proofs/Tight.antt, by traces that are written out and computed. That n is at most 64 is for the word of signers, which has no bit for more.
 -- Assumes nothing.
 use mathlib.Core.Path.{_≡_}
 use mathlib.Core.Bool.{Bool, true, false}
@@ -20,9 +20,8 @@ only v u = eqb u v
 
 -- ---- the quorum
 
--- Document 01, "Where a careful hand still errs": "Rounding (n + t)/2 up for q: with 5, 1, 0 that is 3, and a faulty sender makes two sound
--- pairs deliver different bodies." The sender is node 4, the pairs are 0 and 1, and 2 and 3. Of the bounds of `Quorum` the other two hold, and
--- n + t is not below 2q but equal to it.
+-- R17.5: (n + t)/2 rounded up is no quorum. With 5, 1, 0 it is 3: the sender, node 4, is faulty, nodes 0 and 1 deliver one payload and nodes 2 and 3 another.
+-- Of the bounds of `Quorum` the other two hold, and n + t is not below 2q but equal to it.
 abbrev pub QuorumTight : Type 0
 QuorumTight =
     (list : Trace Act)
@@ -53,15 +52,14 @@ ReachableTight =
     × ((u : ℕ) → correct 4 (only 3) u ≡ true → ever 4 (delivers 4) list u ≡ false)
     × (Delivery 4 4 0 (only 3) 0 list → ⊥)
 
--- The two bounds leave room for a quorum only where n is more than 3t + 2d, which is why a good configuration asks it.
+-- The two bounds leave room for a quorum only where n is more than 3t + 2d, which is why a good configuration asks it (R2.2).
 abbrev pub BoundsAskResilience : Type 0
 BoundsAskResilience = (n t d q : ℕ) → n + t < q + q → q + t + d ≤ n → 3 * t + 2 * d < n
 
 -- ---- what is reached
 
--- "If every bundle sent by a sound unit has by then reached at least c - d sound units": reaching c - d - 1 of them is too little. With 4, 1, 0
--- and node 3 faulty, the sender 0 broadcasts, each bundle that a correct node sends is received by all correct nodes but one, and no correct node
--- delivers.
+-- For R14.17 it is too little that each bundle reaches c - d - 1 correct nodes. With 4, 1, 0 and node 3 faulty, the sender 0 broadcasts, each bundle that a
+-- correct node sends is received by all correct nodes but one, and no correct node delivers.
 abbrev pub ReachTight : Type 0
 ReachTight =
     (list : Trace Act)
@@ -74,8 +72,8 @@ ReachTight =
 
 -- ---- faults and signatures
 
--- With t + 1 faulty nodes nothing is claimed: with 4, 1, 0 and nodes 2 and 3 faulty, both sign two payloads in the slot of 3. Each of the two correct nodes adds its own
--- signature to one of them, which makes a quorum, and they deliver different payloads.
+-- With t + 1 faulty nodes (R14.1) there may be no agreement: with 4, 1, 0 and nodes 2 and 3 faulty, both sign two payloads in the slot of 3. Each of the two
+-- correct nodes adds its own signature to one of them, which makes a quorum, and they deliver different payloads.
 abbrev pub FaultyTight : Type 0
 FaultyTight =
     (list : Trace Act)
@@ -92,8 +90,8 @@ LawfulButSignatures n sender faulty (earlier then u calls Broadcast payload) =
 LawfulButSignatures n sender faulty (earlier then u calls Receive signers payload) =
     LawfulButSignatures n sender faulty earlier × (correct n faulty u ≡ true) × (within signers n ≡ true) × (member signers sender ≡ true)
 
--- With correct nodes' signatures forged nothing is claimed: with 4, 1, 0 and node 3 faulty, 0 receives one payload as if 1 and 2 had signed it, and 1 another as if
--- 0 and 2 had.
+-- With correct nodes' signatures forged (R14.6) there may be no agreement: with 4, 1, 0 and node 3 faulty, 0 receives one payload as if 1 and 2 had signed it,
+-- and 1 another as if 0 and 2 had.
 abbrev pub ForgedTight : Type 0
 ForgedTight =
     (list : Trace Act)
@@ -108,7 +106,8 @@ ForgedTight =
 unfoldable pub notRefused : (q own : ℕ) (act : Act) (r : Record) → Bool
 notRefused q own act r = after (outcome q own act r) (λ result. true) false
 
--- Two bundles are sent, so that no smaller bound holds; and a node that sent on every bundle that it does not refuse, kept ones too, would send three.
+-- R14.16: two bundles are sent, so that no smaller bound holds. A node that sent on every bundle that it does not refuse, kept ones too, would send three
+-- (R17.5).
 abbrev pub SendsTight : Type 0
 SendsTight =
     (list : Trace Act)

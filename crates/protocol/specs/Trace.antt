@@ -1,12 +1,12 @@
 -- Calls at nodes, in the order of time, and what is counted over them. Each node has a state of its own, and a call finds the state that the
--- last call at the same node left: document 01, "The list in demand 3".
+-- last call at the same node left (R14.5).
 -- Assumes nothing.
 use mathlib.Core.Bool.{Bool, true, false, cond, _&&_, _||_}
 use Prim.Native.Nat.{ℕ, zero, suc, _+_}
 use lib.Dec.{eqb}
 use Rattle.signers.specs.Sets.{indicator}
 
--- "The list may be empty and may end anywhere." In `earlier then node calls call` the last call is `call`, at `node`.
+-- R14.3: a list of calls, of any length. In `earlier then node calls call` the last call is `call`, at `node`.
 infixl 10 _then_calls_
 pub data Trace (Call : Type 0) : Type 0 where
   start : Trace Call

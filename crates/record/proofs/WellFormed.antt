@@ -66,13 +66,13 @@ module _ (r : Record) (f : Fits r) (config : Config) (sender : ℕ) where
       go false x true y = rw (state-words r f, x, y, signers-words r f, m) (simp and-false)
       go false x false y = rw (state-words r f, x, y, signers-words r f, m) (simp and-false)
 
-  -- held: the sender's and our own bit are set
+  -- held: the sender and we have signed
   pub well-formed-held : r .head ≡ heldHead → within (r .signers) (config .n) ≡ true → member (r .signers) sender ≡ true
       → wellFormed config sender (bytes r) ≡ member (r .signers) (config .own)
   unfolding stateAllows
   well-formed-held e i m = well-formed-words ∙ rw (held-words r f (omega arith), e, i, m)
 
-  -- delivered: the sender's bit is set and at least q bits are
+  -- delivered: the sender and a quorum have signed
   pub well-formed-delivered : r .head ≡ deliveredHead → within (r .signers) (config .n) ≡ true → member (r .signers) sender ≡ true
       → wellFormed config sender (bytes r) ≡ leb (quorum config) (size (r .signers))
   unfolding stateAllows

@@ -1,5 +1,5 @@
--- Document 01, "Bundle and record": the 32 bytes in which a node keeps what it has of a slot, and when they are well-formed, which the paper calls
--- sound.
+-- RULES section 4: the 32 bytes in which a node keeps what it has of a slot, and when they are well-formed, called sound in the rules; and what a bundle does
+-- to them.
 -- Assumes nothing.
 use mathlib.Core.Bool.{Bool, not, cond, _&&_}
 use mathlib.Core.List.{List, [], _∷_, _++_}
@@ -18,11 +18,11 @@ use Rattle.protocol.specs.Update.{Answer, kept, signed, delivered, Update, Empt
 use Rattle.record.specs.declared.Record.{Record}
 use Rattle.record.specs.declared.Received as Received
 
--- "Record: byte 0 state (0 empty, 1 held, 2 delivered), 1-7 zero, 8-15 signers, 16-31 body."
+-- R4.1: the state in one byte, seven zero bytes, the signers in eight, and the payload
 unfoldable pub layout : (state signers : ℕ) (payload : List ℕ) → List ℕ
 layout state signers payload = state ∷ (replicate 7 0 ++ (bytesOf 8 signers ++ payload))
 
--- the bytes of a record
+-- the bytes of a record; those of an empty one are all zero (R4.5)
 unfoldable pub encoding : protocol.Record → List ℕ
 encoding Empty = replicate recordSize 0
 encoding (Held signers payload) = layout 1 signers payload
@@ -50,14 +50,13 @@ decoded bytes =
     cond (eqb (stateField bytes) 0) Empty
     (cond (eqb (stateField bytes) 1) (Held (signersField bytes) (payloadField bytes)) (Delivered (signersField bytes) (payloadField bytes)))
 
--- what each state asks for: "empty, all is zero; held, the sender's and our own bit are set; delivered, the sender's bit is set and at least q bits
--- are."
+-- R4.4, what each state asks for: empty, that every byte is zero; held, that the sender and we have signed; delivered, that the sender and a quorum have
 unfoldable pub stateAllows : (config : Config) (sender : ℕ) (bytes : List ℕ) → protocol.Record → Bool
 stateAllows config sender bytes Empty = blank bytes
 stateAllows config sender bytes (Held signers payload) = member signers sender && member signers (config .own)
 stateAllows config sender bytes (Delivered signers payload) = member signers sender && leb (quorum config) (size signers)
 
--- "A record is sound when its state is 0, 1 or 2, bytes 1-7 are zero, no signer bit is at n or above, and:"
+-- R4.4: the state is one of the three, the seven bytes after it are zero, only nodes have signed, and what the state asks for is so
 unfoldable pub wellFormed : (config : Config) (sender : ℕ) (bytes : List ℕ) → Bool
 wellFormed config sender bytes =
     ltb (stateField bytes) 3
@@ -72,12 +71,12 @@ bytes r = bytesOf 8 (r .head) ++ (bytesOf 8 (r .signers) ++ payload.bytes (r .pa
 unfoldable pub loaded : List ℕ → List ℕ
 loaded xs = cond (eqb (length xs) recordSize) xs (replicate recordSize 0)
 
--- receiving a bundle with these signers and this payload on the bytes of a record, well-formed or not
+-- R8.1: receiving a bundle with these signers and this payload on the bytes of a record, well-formed or not
 unfoldable pub received : (config : Config) (sender signers : ℕ) (payload bytes : List ℕ) → Outcome Update
 received config sender signers payload bytes =
     checked ((21 if not (wellFormed config sender bytes)) ∷ []) and-then λ _. protocol.update (config .own) (quorum config) signers payload (decoded bytes)
 
--- the number and values of each case of what was received, the record by its bytes
+-- the number and values of each case of what was received (R17.3), the record by its bytes
 abbrev pub receivedOf : Received.Received → Outcome (Answer × List ℕ)
 receivedOf (Received.the-variants.Kept r) = done (kept, bytes r)
 receivedOf (Received.the-variants.Signed r) = done (signed, bytes r)

@@ -1,4 +1,4 @@
-// What a node keeps of a slot, as the 32 bytes of a record and as a value.
+// What a node keeps of a slot, as the 32 bytes of a record (R4.1) and as a value.
 //
 // A record is loaded by value, a bundle is received on the value, and the result is stored again. Beside
 // these only showing looks at a record's bytes, and only at its payload.
@@ -84,7 +84,7 @@ impl Record {
         octets::put(slice, PAYLOAD_AT + 8, self.payload.low);
     }
 
-    // Whether all 32 bytes are zero.
+    // Whether all 32 bytes are zero, and so the record empty (R4.5).
     pub fn is_blank(self) -> bool
         ensures { λ r. ⌜ r ≡ blank (bytesIn self) ⌝ }
     {
@@ -100,8 +100,8 @@ impl Record {
         self.payload.low == 0
     }
 
-    // Whether the record is well-formed, as document 01 says, for a slot of the sender at this node. The
-    // calls refuse any other.
+    // R4.4: whether the record is well-formed, for a slot of the sender at this node. The calls refuse any
+    // other.
     pub fn well_formed(self, config: Config, sender: u8) -> bool
         ensures { λ r. ⌜ r ≡ wellFormed config sender (bytesIn self) ⌝ }
     {
@@ -147,7 +147,7 @@ impl Record {
         1 < self.head / HELD
     }
 
-    // What a bundle with these signers and this payload does to the record of a slot of the sender.
+    // R8.1: what a bundle with these signers and this payload does to the record of a slot of the sender.
     pub fn receive(self, config: Config, sender: u8, signers: u64, payload: Payload) -> Received
         ensures { λ r. ⌜ receivedOf r ≡ encodedUpdate (received config sender signers (payloadBytes payload) (bytesIn self)) ⌝ }
     {
@@ -196,7 +196,7 @@ impl Record {
     }
 }
 
-// A bundle on an empty record: we sign.
+// R8.2: a bundle on an empty record. We sign.
 fn sign(config: Config, signers: u64, payload: Payload) -> Received
     ensures { λ r. ⌜ receivedOf r ≡ encodedUpdate (updateOf (config .own) (quorum config) signers (payloadBytes payload) Empty) ⌝ }
 {
@@ -210,7 +210,7 @@ fn sign(config: Config, signers: u64, payload: Payload) -> Received
     Received::Signed(Record::held(signers, payload))
 }
 
-// A bundle with the payload that is held, and so far signed by `known`: the signers join.
+// R8.3: a bundle with the payload that is held, and so far signed by `known`. The signers join.
 fn join(config: Config, known: u64, signers: u64, payload: Payload) -> Received
     ensures { λ r. ⌜ receivedOf r ≡ encodedUpdate (updateOf (config .own) (quorum config) signers (payloadBytes payload) (Held known (payloadBytes payload))) ⌝ }
 {
@@ -221,7 +221,7 @@ fn join(config: Config, known: u64, signers: u64, payload: Payload) -> Received
     Received::Kept(Record::held(signers, payload))
 }
 
-// A bundle with another payload than the one held: only a full quorum replaces it.
+// R8.4: a bundle with another payload than the one held. Only a full quorum replaces it.
 fn replace(config: Config, held: Record, signers: u64, payload: Payload) -> Received
     requires { ⌜ same (payloadBytes (held .payload)) (payloadBytes payload) ≡ false ⌝ }
     ensures { λ r. ⌜ receivedOf r ≡ encodedUpdate (updateOf (config .own) (quorum config) signers (payloadBytes payload) (Held (held .signers) (payloadBytes (held .payload)))) ⌝ }

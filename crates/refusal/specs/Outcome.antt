@@ -1,5 +1,4 @@
--- Document 01, "Reasons to refuse": "A refusal returns its number"; "Checks run in the order of the two lists, the first one first."
--- What a call gives is either the number of the first reason that applies, or the result of its work.
+-- R5.1 and R5.2: what a call gives is the number of the first reason that applies, or else the result of its work.
 -- Assumes nothing.
 use mathlib.Core.Bool.{Bool, cond}
 use mathlib.Core.List.{List, [], _∷_}
@@ -15,7 +14,7 @@ pub data Reason : Type 0 where
   _if_ : ℕ → Bool → Reason
 
 module _ {A : Type 0} where
-  -- the first of the reasons that applies, and the work if none does
+  -- R5.2: the first of the reasons that applies, and the work if none does
   unfoldable pub unless : List Reason → A → Outcome A
   unless [] work = done work
   unless ((number if applies) ∷ rest) work = cond applies (refused number) (unless rest work)
@@ -26,7 +25,7 @@ module _ {A : Type 0} where
   refused number and-then next = refused number
   done work and-then next = next work
 
-  -- what there is afterwards: the result of the work, and as before after a refusal. "A refusal .. changes no byte."
+  -- what there is afterwards: the result of the work; where the call refused, what there was before (R5.1)
   abbrev pub after : {B : Type 0} → Outcome A → (A → B) → B → B
   after (refused number) result before = before
   after (done work) result before = result work

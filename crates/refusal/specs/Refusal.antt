@@ -1,4 +1,4 @@
--- Document 01, "Reasons to refuse": the number of each reason, with the paper's words.
+-- R5.4, for 1 to 10, and R5.5, for 20 to 26: the number of each reason, under the condition on which it applies.
 -- Assumes nothing.
 use Prim.Native.Nat.{ℕ}
 use Rattle.refusal.specs.Outcome.{Outcome, refused, done}
@@ -8,42 +8,42 @@ use Rattle.refusal.specs.declared.Verdict.{Verdict}
 use Rattle.refusal.specs.declared.Verdict.the-variants.{Done, Refused}
 
 abbrev pub numberOf : Refusal → ℕ
--- "table not good"
+-- the configuration is not good
 numberOf BadConfig = 1
--- "bundle not 32 bytes"
+-- the bundle has another length than 32
 numberOf BundleLength = 2
--- "byte 6 or 7 not zero"
+-- one of the bundle's reserved bytes, 6 and 7, is not zero
 numberOf ReservedBytes = 3
--- "day differs from the table's"
+-- the bundle's day is not the configuration's
 numberOf OtherDay = 4
--- "sender n or above"
+-- the sender is not below n
 numberOf SenderRange = 5
--- "number above 15"
+-- the sequence number is not below 16
 numberOf SeqRange = 6
--- "a signer bit at n or above"
+-- a signer is not below n
 numberOf SignerRange = 7
--- "the sender's bit not set"
+-- the sender is not among the signers
 numberOf SenderUnsigned = 8
--- "body not 16 bytes"
+-- the payload has another length than 16
 numberOf PayloadLength = 9
--- "outgoing buffer not 32 bytes"
+-- the outgoing buffer has another length than 32
 numberOf OutLength = 10
--- "record buffer not 512 × n bytes"
+-- the buffer of records has another length than 512 × n
 numberOf RecordsLength = 20
--- "the record is not sound"
+-- the record is not well-formed
 numberOf MalformedRecord = 21
--- "slot delivered already"
+-- the slot is delivered here
 numberOf AlreadyDelivered = 22
--- "our bit is set in the bundle, yet our record does not hold its body"
+-- we are among the bundle's signers, and our record does not hold its payload
 numberOf OwnSignatureUnknown = 23
--- "another body held, and fewer than q signers in the bundle"
+-- our record holds another payload, and the bundle has no quorum of signers
 numberOf OtherPayload = 24
--- "none of our 16 records is empty"
+-- our sixteen records are all in use
 numberOf NoFreeSlot = 25
--- "slot not delivered"
+-- the slot is not delivered here
 numberOf NotDelivered = 26
 
--- the outcome that a verdict tells: the paper's number, or that the work is done
+-- the outcome that a verdict tells (R17.3): the number of its reason, or that the work is done
 abbrev pub verdictOf : Verdict → Outcome Unit
 verdictOf Done = done tt
 verdictOf (Refused r) = refused (numberOf r)

@@ -1,9 +1,9 @@
-// Why a call refused: the reasons of document 01, each under its number there.
+// Why a call refused: the reasons of R5.4 and R5.5, each with its number.
 ghost use mathlib.Core.Path.{_≡_};
 ghost use Rattle.refusal.specs.Refusal.{numberOf};
 
 pub enum Refusal {
-    // from the input
+    // from what the caller gives: R5.4
     BadConfig,
     BundleLength,
     ReservedBytes,
@@ -14,7 +14,7 @@ pub enum Refusal {
     SenderUnsigned,
     PayloadLength,
     OutLength,
-    // from the state
+    // from the node's records: R5.5
     RecordsLength,
     MalformedRecord,
     AlreadyDelivered,
@@ -30,7 +30,7 @@ pub enum Verdict {
     Refused(Refusal),
 }
 
-// The number that document 01 gives the reason.
+// The number of the reason.
 pub fn number(reason: Refusal) -> u32
     ensures { λ r. ⌜ r ≡ numberOf reason ⌝ }
 {

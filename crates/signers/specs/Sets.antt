@@ -1,4 +1,4 @@
--- Sets of nodes, for any number n of nodes: a set is a test on node numbers, and its members are counted below n.
+-- Sets of nodes, for any number n of nodes (R17.7): a set is a test on node numbers, and its members are counted below n.
 -- Assumes nothing.
 use mathlib.Core.Bool.{Bool, true, false, _&&_, _||_}
 use Prim.Native.Nat.{ℕ, zero, suc, _+_}

@@ -1,4 +1,4 @@
--- Document 01, "Bundle and record": "Signers is a 64-bit word; bit u (weight 2 to the power u) stands for unit u."
+-- R3.2: sets of nodes as words of 64 bits. Node u has bit u, which is worth 2 to the power u.
 -- Assumes nothing.
 use mathlib.Core.Bool.{Bool, not, cond}
 use Prim.Native.Nat.{ℕ, _-_, _/_, _%_, _^_}

@@ -1,4 +1,4 @@
-// Sets of nodes in a 64-bit word: bit u, of weight 2 to the power u, stands for node u.
+// R3.2: sets of nodes in a 64-bit word. Bit u, of weight 2 to the power u, stands for node u.
 //
 // A bundle and a record keep the nodes that signed a payload as such a word. Every function is
 // defined for every argument; a node number of 64 or more has no bit, so no set has it.
@@ -32,7 +32,7 @@ pub fn union(a: u64, b: u64) -> u64
     a | b
 }
 
-// How many nodes are in `set`.
+// How many nodes are in `set`: the ones of the word, counted (R17.9).
 pub fn size(set: u64) -> u32
     ensures { λ r. ⌜ r ≡ sized set ⌝ }
 {
