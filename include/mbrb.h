@@ -56,9 +56,9 @@
  *     opened again.
  * n, t, d and own belong to the block like the day: they change with a new day only.
  *
- * What to save. A refusal changes no record. MBRB_KEPT, MBRB_SIGNED, MBRB_DELIVERED and MBRB_ANNOUNCED(number) change
- * one: the 32 bytes at MBRB_RECORD_AT(sender, number) of the bundle taken, or of MBRB_RECORD_AT(own, number) announced.
- * They change no other byte. mbrb_open changes all.
+ * What to save. A refusal changes no record. MBRB_KEPT, MBRB_SIGNED and MBRB_DELIVERED change the 32 bytes at
+ * MBRB_RECORD_AT(sender, number), by the sender and number of the bundle taken. MBRB_ANNOUNCED(number) changes those at
+ * MBRB_RECORD_AT(own, number). No other byte of the records changes, which is proved. mbrb_open changes all of them.
  *   - These 32 bytes are saved all or nothing: after a loss of power either the old or the new ones are there. A
  *     mixture can be a record that claims signatures which nobody gave.
  *   - After MBRB_SIGNED, MBRB_DELIVERED and MBRB_ANNOUNCED(number) the record is saved before `out` is sent, before the

@@ -11,7 +11,7 @@ use lib.ListN.{length, replicate}
 use borrow.Author.Tests.{ltb-true}
 use Rattle.octets.specs.Octets.{blank}
 use Rattle.signers.specs.Signers.{size}
-use Rattle.refusal.specs.Outcome.{Outcome, refused, done, plain, unless, after, checked, _and-then_}
+use Rattle.refusal.specs.Outcome.{Outcome, refused, done, plain, after, checked, _and-then_}
 use Rattle.refusal.proofs.Reasons.{done-clear, Comes, unless-comes, then-comes}
 use Rattle.config.specs.declared.Config.{Config}
 use Rattle.config.specs.Config.{quorum, slots}
@@ -144,57 +144,58 @@ receive-listed config bundle records out =
 
 -- ---- refusals
 
--- a number that is tested
+-- a refusal's number passes the test
 refusal-says : {A : Type 0} (test : ℕ → Bool) (claim : A → Type 0) (outcome : Outcome A) (number : ℕ) → Comes test claim outcome → outcome ≡ refused number → test number ≡ true
 refusal-says test claim outcome number h e = rw e at h
 
-below-100 : ℕ → Bool
-below-100 k = ltb 0 k && ltb k 100
+-- the numbers from 1 to 99
+refusing : ℕ → Bool
+refusing k = ltb 0 k && ltb k 100
 
-below-says : (k : ℕ) → below-100 k ≡ true → RefusalCode k
-unfolding below-100
-below-says k e =
+refusing-says : (k : ℕ) → refusing k ≡ true → RefusalCode k
+unfolding refusing
+refusing-says k e =
     let (some, few) = and-eq-true-iff (ltb 0 k) (ltb k 100) .0 e in
     (ltb-true 0 k some, ltb-true k 100 few)
 
-open-below : (config : Config) (records : List ℕ) → Comes below-100 (λ _. Unit) (opened config records)
-unfolding opened openReasons below-100
-open-below config records = unless-comes below-100 (λ _. Unit) (openReasons config records) (replicate (length records) 0) refl tt
+open-refusing : (config : Config) (records : List ℕ) → Comes refusing (λ _. Unit) (opened config records)
+unfolding opened openReasons refusing
+open-refusing config records = unless-comes refusing (λ _. Unit) (openReasons config records) (replicate (length records) 0) refl tt
 
-search-below : (config : Config) (records : List ℕ) (seq left : ℕ) → Comes below-100 (λ _. Unit) (search config records seq left)
-unfolding search below-100
-search-below config records seq zero = refl
-search-below config records seq (suc left) =
-    go (blank (recordAt config (ownSlot config seq) records)) (wellFormed config (config .own) (recordAt config (ownSlot config seq) records)) (search-below config records (suc seq) left)
+search-refusing : (config : Config) (records : List ℕ) (seq left : ℕ) → Comes refusing (λ _. Unit) (search config records seq left)
+unfolding search refusing
+search-refusing config records seq zero = refl
+search-refusing config records seq (suc left) =
+    go (blank (recordAt config (ownSlot config seq) records)) (wellFormed config (config .own) (recordAt config (ownSlot config seq) records)) (search-refusing config records (suc seq) left)
   where
-    go : (b f : Bool) → Comes below-100 (λ _. Unit) (search config records (suc seq) left)
-        → Comes below-100 (λ _. Unit) (cond b (done seq) (cond f (search config records (suc seq) left) (refused 21)))
+    go : (b f : Bool) → Comes refusing (λ _. Unit) (search config records (suc seq) left)
+        → Comes refusing (λ _. Unit) (cond b (done seq) (cond f (search config records (suc seq) left) (refused 21)))
     go true f below = tt
     go false true below = below
     go false false below = refl
 
-broadcast-below : (config : Config) (payload records out : List ℕ) → Comes below-100 (λ _. Unit) (broadcast config payload records out)
-unfolding broadcast broadcastReasons below-100
-broadcast-below config payload records out =
-    then-comes below-100 (λ _. Unit) (checked (broadcastReasons config payload records out)) (λ _. search config records 0 slots)
-    (unless-comes below-100 (λ _. Unit) (broadcastReasons config payload records out) tt refl tt)
-    (λ _. search-below config records 0 slots)
+broadcast-refusing : (config : Config) (payload records out : List ℕ) → Comes refusing (λ _. Unit) (broadcast config payload records out)
+unfolding broadcast broadcastReasons refusing
+broadcast-refusing config payload records out =
+    then-comes refusing (λ _. Unit) (checked (broadcastReasons config payload records out)) (λ _. search config records 0 slots)
+    (unless-comes refusing (λ _. Unit) (broadcastReasons config payload records out) tt refl tt)
+    (λ _. search-refusing config records 0 slots)
 
-receive-below : (config : Config) (bundle records out : List ℕ) → Comes below-100 (λ _. Unit) (receive config bundle records out)
-unfolding receive receiveReasons read readReasons headerReasons update updateReasons below-100
-receive-below config bundle records out =
-    then-comes below-100 (λ _. Unit) (read config bundle) _ (unless-comes below-100 (λ _. Unit) (readReasons config bundle) (headerIn bundle) refl tt)
-    (λ h. then-comes below-100 (λ _. Unit) (checked (receiveReasons config bundle records out h)) _
-    (unless-comes below-100 (λ _. Unit) (receiveReasons config bundle records out h) tt refl tt)
-    (λ _. unless-comes below-100 (λ _. Unit)
+receive-refusing : (config : Config) (bundle records out : List ℕ) → Comes refusing (λ _. Unit) (receive config bundle records out)
+unfolding receive receiveReasons read readReasons headerReasons update updateReasons refusing
+receive-refusing config bundle records out =
+    then-comes refusing (λ _. Unit) (read config bundle) _ (unless-comes refusing (λ _. Unit) (readReasons config bundle) (headerIn bundle) refl tt)
+    (λ h. then-comes refusing (λ _. Unit) (checked (receiveReasons config bundle records out h)) _
+    (unless-comes refusing (λ _. Unit) (receiveReasons config bundle records out h) tt refl tt)
+    (λ _. unless-comes refusing (λ _. Unit)
     (updateReasons (config .own) (quorum config) (h .signers) (payloadPart config bundle) (decoded (recordAt config (slotOf h) records)))
     (updateResult (config .own) (quorum config) (h .signers) (payloadPart config bundle) (decoded (recordAt config (slotOf h) records))) refl tt))
 
 pub refusals-below-100 : RefusalsBelow100
 refusals-below-100 config records out = (
-  λ number e. below-says number (refusal-says below-100 (λ _. Unit) (opened config records) number (open-below config records) e),
-  λ payload number e. below-says number (refusal-says below-100 (λ _. Unit) (broadcast config payload records out) number (broadcast-below config payload records out) e),
-  λ bundle number e. below-says number (refusal-says below-100 (λ _. Unit) (receive config bundle records out) number (receive-below config bundle records out) e),
+  λ number e. refusing-says number (refusal-says refusing (λ _. Unit) (opened config records) number (open-refusing config records) e),
+  λ payload number e. refusing-says number (refusal-says refusing (λ _. Unit) (broadcast config payload records out) number (broadcast-refusing config payload records out) e),
+  λ bundle number e. refusing-says number (refusal-says refusing (λ _. Unit) (receive config bundle records out) number (receive-refusing config bundle records out) e),
 )
 
 pub refusal-code-changes-nothing : RefusalCodeChangesNothing
