@@ -1,46 +1,172 @@
-/* Byzantine reliable broadcast with a message adversary: the C interface, for C and C++.
+/* mbrb: announcements among the units of a cascade, without a master. The C interface, for C99 and C++11.
  *
- * A cascade has n units. Any t of them may be faulty, and each sending may miss d sound ones; n > 3t + 2d. A unit announces a body of
- * 16 bytes, takes the bundles that come in, and sends on what the calls tell it to. No two sound units deliver different bodies in one
- * slot (a day, a sender and a number from 0 to 15), whatever faulty units send and whatever is lost, late, twice or out of order. That is
- * proved of the functions in this library, with every code and byte that they give, for hosts that keep to what follows.
+ * A cascade has n units. Any t of them may be faulty, and each sending may miss d sound ones; n > 3t + 2d. A unit
+ * announces a body of 16 bytes, takes the bundles that come in, and sends what the calls tell it to send. No two sound
+ * units deliver different bodies in one slot (a day, a sender, a number from 0 to 15), whatever faulty units send and
+ * whatever is lost, late, twice or out of order. This is proved of the three functions below, with every code and byte
+ * that they give, for hosts that keep to this page. Sections 1 to 4 are for writing a host, 5 to 8 for a host that must
+ * survive restarts and losses, 9 to 11 to look up.
  *
- * Build the library with `rt staticlib host` and link target/staticlib/libhost.a, for x86-64. It allocates nothing, keeps nothing between calls, and
- * calls nothing of the host's. examples/host has a program to start from.
+ *
+ * 1. Link it
+ *
+ * `./install` puts this file, libmbrb.a and mbrb.pc under a PREFIX. Then
+ *
+ *     cc host.c $(pkg-config --cflags --libs mbrb)
+ *
+ * Without installing, `rt staticlib mbrb` writes target/staticlib/libmbrb.a. It is x86-64 code for the System V calling
+ * convention (section 11 has other processors). examples/host has a program to start from.
  *
  *
- * What the host sees to
+ * 2. A unit's day
  *
- * Of the memory that it lends to a call:
- * - Each pointer has at least as many bytes behind it as the length beside it says, until the call is back. No pointer is null, not even one
- *   whose length is 0. Any alignment will do, and what `out` holds before does not matter.
- * - The three buffers of a call do not overlap.
+ *   1. Open the day, once: mbrb_open, with MBRB_RECORDS_SIZE(n) bytes of records.
+ *   2. To announce, call mbrb_broadcast with the body.
+ *   3. For each bundle that comes in, let the key chip check its signatures (section 6), then call mbrb_receive.
+ *   4. After MBRB_ANNOUNCED(number), MBRB_SIGNED and MBRB_DELIVERED save (section 4), then send `out` to all units,
+ *      this one among them: a unit delivers its own announcement by taking it back with enough signatures. After any
+ *      other code there is nothing to send.
+ *   5. After MBRB_DELIVERED act on the body in `out`. It comes once for each slot.
+ * A code from 1 to 99 is a refusal: no byte has changed, and the number says why. Most are harmless; section 8 is for
+ * 21 and 23.
+ *
+ *
+ * 3. The memory that a call is lent
+ *
+ * - Each pointer has at least as many bytes behind it as the length beside it says, until the call is back. No pointer
+ *   is null, not even one whose length is 0. Any alignment will do, and what `out` holds before does not matter.
+ * - The buffers of a call do not overlap.
  * - Nobody else writes to them during the call, nor reads `records` or `out`: no interrupt, no other core, no device.
- * A call is safe with all bytes, lengths and numbers that keep to this. It refuses what it cannot use, and then changes no byte.
+ * A call is safe with all bytes, lengths and numbers that keep to this.
  *
- * Of the records:
- * - A unit has one record buffer of MBRB_RECORDS_SIZE(n) bytes a day. Before the first call of the day the host opens it: it sets every byte
- *   to zero, once, and a day is never opened again, not even where a clock was set back. From then on only the calls write to it, and it is
- *   kept until the day is over. A unit that loses it may sign a second body in one slot, and counts as faulty from then on.
- * - So where a unit may restart, what a call has changed is safe before `out` is sent, the 32 bytes of the record together, and with them
- *   `out` and the signatures behind its bits until they are sent. After a restart a bundle that was not sent is sent, and a delivered body
- *   that was not acted on is acted on: the calls do not tell it a second time.
  *
- * Of the cascade:
- * - n, t, d and day are the same at all units, and `own` is different at each.
- * - At most t units are faulty.
+ * 4. The records, their day, and saving them
  *
- * Of signatures. Bit u of a bundle's signers stands for a signature of unit u on day, sender, number and body:
- * - Coming in, the host's key chip checks each signature of units 0 to n - 1 before the call, and the host clears the bit of each that does not
- *   hold. Bits at n and above may stay: the call refuses them.
- * - Going out, the key chip adds the signatures that the bits name: our own, if our bit is set, and those that came with the
- *   bundles of that slot and body. It signs nothing else in a slot.
+ * A unit has one buffer of records a day. Only the calls write to it, and it is kept until the day is over. It is what
+ * the unit has signed: a unit that loses it can sign a second body in one slot, and counts as faulty from then on.
  *
- * Of the radio:
- * - After MBRB_SIGNED, MBRB_DELIVERED and MBRB_ANNOUNCED(number) `out` holds a bundle, which is to be sent to all units, the sending one among
- *   them: it delivers its own announcement by taking it back with enough signatures. After any other code nothing is to be sent.
- * - For delivery, each bundle that a sound unit sends comes to be taken, by its 32 bytes and whoever brings them, at all sound units but d,
- *   the sending one counted like any other. Then what a sound unit announces, and what one delivers, all sound units but d deliver.
+ * The records do not hold their day, so no call notices records of yesterday. With them a unit refuses today's bundles
+ * by 22, because yesterday's were delivered, or sends its own bit for what it did not sign today. So keep the day
+ * beside the records, in one block that is saved together, and give each call the day of the block, never that of the
+ * clock. The clock only decides when a new day is opened. Compare the two before calls:
+ *   - the clock's day is the block's: go on;
+ *   - it is later: the block's day is over. Open the new day (mbrb_open), and save records and new day together before
+ *     the first call of that day;
+ *   - it is earlier: the clock is wrong or was set back. Stay with the block. A day that was opened once is never
+ *     opened again.
+ * n, t, d and own belong to the block like the day: they change with a new day only.
+ *
+ * What to save. A refusal changes no record. MBRB_KEPT, MBRB_SIGNED and MBRB_DELIVERED change the 32 bytes at
+ * MBRB_RECORD_AT(sender, number), by the sender and number of the bundle taken. MBRB_ANNOUNCED(number) changes those at
+ * MBRB_RECORD_AT(own, number). No other byte of the records changes, which is proved. mbrb_open changes all of them.
+ *   - These 32 bytes are saved all or nothing: after a loss of power either the old or the new ones are there. A
+ *     mixture can be a record that claims signatures which nobody gave.
+ *   - After MBRB_SIGNED, MBRB_DELIVERED and MBRB_ANNOUNCED(number) the record is saved before `out` is sent, before the
+ *     body is acted on, and before the next call. Save `out` too, with the record or after it, never before it: an
+ *     `out` without its record is a signature that the unit does not know of. Bytes 8 to 31 of `out` are those of the
+ *     record, so until the next call on that slot `out` can be made again from it.
+ *   - MBRB_KEPT need not be saved before the next sending, nor at all. What is lost with it is signatures of others, as
+ *     if that bundle had not come in.
+ *
+ *
+ * 5. After a restart
+ *
+ *   1. Load the block: day, records, each `out` that is not noted as sent, each body that is not noted as acted on, and
+ *      the signatures of section 6. If it cannot be loaded whole, make no call for the rest of the day, not even
+ *      mbrb_open; a new day makes the unit sound again. The same goes for a new unit that joins a cascade in the middle
+ *      of a day on which it may have signed before.
+ *   2. Compare the block's day with the clock's, as in section 4. A later day is opened, and the steps below are for
+ *      the same day.
+ *   3. Do not open the day again.
+ *   4. Send each `out` that is not noted as sent. Where it was sent already, sending the same bytes again does no harm.
+ *   5. Act on each body that is not noted as acted on. The calls do not tell it again: they answer 22 from now on.
+ *   6. Go on with announcing and taking.
+ *
+ *
+ * 6. Signatures
+ *
+ * Bit u of a bundle's signers stands for a signature of unit u on day, sender, number and body. The library sees the
+ * bits alone.
+ *   - Coming in: the key chip checks each signature of units 0 to n - 1, our own as well, before the call, and the host
+ *     clears the bit of each that does not hold. Bits at n and above may stay: the call refuses them.
+ *   - Going out: the key chip adds the signatures that the bits of `out` name. Ours is made if our bit is set, and for
+ *     nothing else in that slot. The others came in with bundles of that slot and body, and the host has stored them.
+ *   - Storing: after MBRB_SIGNED, MBRB_KEPT and MBRB_DELIVERED the host stores the signatures that came with the
+ *     bundle, and saves them no later than the record. Only those of the body in the record are needed: after a refusal
+ *     none, and where MBRB_DELIVERED brings another body than the one held, the bundle's own. While a slot is held
+ *     these are fewer than MBRB_QUORUM(n, t) (one where n is 1), and up to n when it is delivered. Once the delivered
+ *     `out` is sent they may go.
+ *   - Room: with s bytes a signature at most n * s for a slot, and 16 * n slots, so 16 * n * n * s bytes: for s = 64
+ *     that is 16 KiB with 4 units, 64 KiB with 8, and 4 MiB with 64.
+ *
+ *
+ * 7. The cascade and its radio
+ *
+ *   - n, t, d and day are the same at all units, and own is different at each. At most t units are faulty; a unit that
+ *     breaks section 4 is one of them.
+ *   - The same bytes may be sent again, at any time and by anybody. Where a unit has taken a bundle before, it answers
+ *     MBRB_KEPT or 22 and changes no byte.
+ *   - For delivery each bundle that a sound unit sends comes to be taken at all sound units but d, by its 32 bytes and
+ *     whoever brings them; the sending unit counts like any other. Then all sound units but d deliver what a sound unit
+ *     announces or delivers. A slot in which more is lost takes no delivery from another slot, and agreement never
+ *     depends on any of this.
+ *
+ *
+ * 8. What to do at 21 and at 23
+ *
+ * 21, MBRB_UNSOUND_RECORD: the record is not one that these calls leave. The day was not opened, the table is another
+ * one, 32 bytes are half old and half new, or something else wrote there. Make no more calls on these records, and
+ * neither repair nor open them. Where a copy holds exactly what was saved last, load it as after a restart. Otherwise
+ * the unit is silent until it opens a new day; the others bear that, as one of their t.
+ *
+ * 23, MBRB_OWN_SIGNATURE_UNKNOWN: the bundle has our bit, and our record does not hold its body. Let the key chip look
+ * at our signature again.
+ *   - It does not hold: the host has not cleared the bit (section 6). Mend that; nothing has changed.
+ *   - It holds: we have signed what our records do not know. They were lost or are older than what was sent, or another
+ *     unit has our key. Stop as at 21.
+ *
+ *
+ * 9. What is proved, and what is argued
+ *
+ * Proved of the functions, for all bytes, lengths and numbers: each code, each byte afterwards, that a refusal changes
+ * none, that taking and announcing write to the record of their slot and to no other, that taking answers by this
+ * record, the input, the table and the lengths, and announcing by our own sixteen records besides, and that a call ends.
+ * Proved of whole lists of calls at sound units: agreement, at most one delivery and two sendings in a slot, only
+ * announced bodies in a sound sender's slots, and delivery as in section 7; that 21 does not come there, nor 23 where
+ * the bits are true. docs/CLAIMS.md has each with its file.
+ *
+ * Argued and not proved: that a host which keeps to sections 3 to 7 is such a list. The lists know no restart. A call
+ * whose change was lost before anything of it was sent or acted on is left out of the list: its answer was seen by
+ * nobody, and by what is proved of records no other call answers differently, but for announcing after a lost
+ * announcement, which is why that is saved before the next call. So with a lost MBRB_KEPT all of agreement stands, and
+ * in delivery that bundle counts as one that has not reached this unit, until it comes again. Assumed: Rattle's logic
+ * and its compiler's back end, and the host's memset.
+ *
+ *
+ * 10. What it costs
+ *
+ *   - Memory: MBRB_RECORDS_SIZE(n) bytes of records, which the host gives. The library allocates nothing and has no
+ *     data of its own.
+ *   - Stack: 584 bytes for mbrb_broadcast with all sixteen numbers used (72 with none), 88 for mbrb_receive, 24 for
+ *     mbrb_open, and for what the host's memset takes below it; besides, up to 40 bytes of arguments that the caller
+ *     puts there. These are the frames of the machine code, return addresses included; tests/footprint sees the same on
+ *     a stack that was painted before.
+ *   - Code: 1,756 bytes. No vector or floating-point register is used. The one symbol that it takes from the host is
+ *     memset, for mbrb_open.
+ *   - mbrb_receive uses 32 bytes below the stack pointer (the red zone of the calling convention), counted above. Where
+ *     interrupts run on the stack of what they interrupt, they must leave the 128 bytes below it alone, as the
+ *     convention asks.
+ *   - Nothing is kept between calls, so calls on different records may run at once. Calls on the same records come one
+ *     after the other.
+ *
+ *
+ * 11. A controller that is no x86-64
+ *
+ * The kit's compiler writes x86-64 code only, so this library does not link there. The proof is of the source and does
+ * not depend on the processor: what is missing is a back end for it. Meanwhile a PC can run this library for simulation
+ * and training, and be the measure for another implementation: give both the same calls, random ones and broken ones
+ * too, and compare code, records and `out` byte by byte. rust/ does that with one written in Rust, on a million calls.
+ * What such a comparison finds is found; it is no proof.
  */
 #ifndef MBRB_H
 #define MBRB_H
@@ -52,6 +178,12 @@
 extern "C" {
 #endif
 
+/* The version of this interface and of the formats below. CHANGELOG.md says what each number stands for. */
+#define MBRB_VERSION_MAJOR 1
+#define MBRB_VERSION_MINOR 0
+#define MBRB_VERSION_PATCH 0
+#define MBRB_VERSION "1.0.0"
+
 /* Sizes of the buffers, in bytes. */
 #define MBRB_BODY_SIZE 16
 #define MBRB_BUNDLE_SIZE 32 /* a bundle that comes in, and `out` */
@@ -60,47 +192,62 @@ extern "C" {
 #define MBRB_RECORDS_SIZE(n) ((size_t)(n) * MBRB_NUMBERS * MBRB_RECORD_SIZE)
 #define MBRB_UNITS_MAX 64
 
-/* A bundle, integers with the high byte first: where its fields start. The bytes between number and signers are zero. */
+/* How many signers deliver a body, with a good table. */
+#define MBRB_QUORUM(n, t) (((unsigned)(n) + (unsigned)(t)) / 2u + 1u)
+
+/* A bundle, integers with the high byte first: where its fields start. The two bytes between number and signers are zero. */
 #define MBRB_DAY_AT 0     /* 4 bytes */
 #define MBRB_SENDER_AT 4  /* 1 byte */
 #define MBRB_NUMBER_AT 5  /* 1 byte */
-#define MBRB_SIGNERS_AT 8 /* 8 bytes: unit u is the bit of weight 2 to the power u */
+#define MBRB_SIGNERS_AT 8 /* 8 bytes: unit u is the bit of weight 2 to the power u; in a record too */
 #define MBRB_BODY_AT 16   /* 16 bytes, in a record too */
 
-/* Where the record of a slot starts in the records. Its first byte is the state below; its body starts MBRB_BODY_AT bytes on. For a display:
- * of records that the calls have left. What is to be acted on stands in `out` at MBRB_DELIVERED. */
+/* Where the record of a slot starts in the records. Its first byte is the state below; signers and body lie as in a
+ * bundle, and what is left is zero. To save it, and for a display: of records that the calls have left. What is to be
+ * acted on stands in `out` at MBRB_DELIVERED. */
 #define MBRB_RECORD_AT(sender, number) (((size_t)(sender) * MBRB_NUMBERS + (number)) * MBRB_RECORD_SIZE)
 #define MBRB_RECORD_EMPTY 0
 #define MBRB_RECORD_HELD 1
 #define MBRB_RECORD_DELIVERED 2
 
+/* Code of mbrb_open. */
+#define MBRB_OPENED 0 /* the day is open: every byte of the records is zero */
+
 /* Codes of mbrb_receive. */
 #define MBRB_KEPT 100      /* the signers are noted; nothing to send */
-#define MBRB_SIGNED 101    /* we sign this body: send `out` */
-#define MBRB_DELIVERED 102 /* the body is delivered: act on it, and send `out` */
+#define MBRB_SIGNED 101    /* we sign this body: save, then send `out` */
+#define MBRB_DELIVERED 102 /* the body is delivered: save, then act on it and send `out` */
 
-/* Codes of mbrb_broadcast: 200 plus the number under which the body was announced: send `out`. */
+/* Codes of mbrb_broadcast: 200 plus the number under which the body was announced: save, then send `out`. */
 #define MBRB_ANNOUNCED(number) (200u + (number))
 #define MBRB_IS_ANNOUNCED(code) ((code) >= 200u)
+#define MBRB_NUMBER(code) ((code) - 200u) /* the number in an announced code */
 
-/* Refusals, the first that applies in this order. No byte has changed. In brackets the calls that may give it: B mbrb_broadcast, R mbrb_receive. */
-#define MBRB_BAD_TABLE 1               /* [B R] n not 1 to 64, or n <= 3t + 2d, or own >= n */
-#define MBRB_BUNDLE_LENGTH 2           /* [R]   the bundle has not 32 bytes */
-#define MBRB_RESERVED_BYTES 3          /* [R]   byte 6 or 7 of the bundle is not zero */
-#define MBRB_OTHER_DAY 4               /* [R]   the bundle is of another day */
-#define MBRB_SENDER_RANGE 5            /* [R]   its sender is n or above */
-#define MBRB_NUMBER_RANGE 6            /* [R]   its number is above 15 */
-#define MBRB_SIGNER_RANGE 7            /* [R]   it has a signer at n or above */
-#define MBRB_SENDER_UNSIGNED 8         /* [R]   its sender has not signed it */
-#define MBRB_BODY_LENGTH 9             /* [B]   the body has not 16 bytes */
-#define MBRB_OUT_LENGTH 10             /* [B R] `out` has not 32 bytes */
-#define MBRB_RECORDS_LENGTH 20         /* [B R] `records` has not MBRB_RECORDS_SIZE(n) bytes */
-#define MBRB_UNSOUND_RECORD 21         /* [B R] the slot's record, or one of ours before the first free one, is none that these calls leave:
-                                                not opened, or written over */
-#define MBRB_ALREADY_DELIVERED 22      /* [R]   the slot is delivered already; this is usual, and nothing is wrong */
-#define MBRB_OWN_SIGNATURE_UNKNOWN 23  /* [R]   it has our signature, yet our record does not hold its body: forged, or the records were lost */
-#define MBRB_OTHER_BODY 24             /* [R]   another body is held, and fewer than a quorum signed this one: its sender said two things */
-#define MBRB_NO_FREE_NUMBER 25         /* [B]   our sixteen numbers of the day are used up */
+/* Refusals, 1 to 99: the first that applies in this order. No byte has changed. In brackets the calls that may give it:
+ * O mbrb_open, B mbrb_broadcast, R mbrb_receive. */
+#define MBRB_BAD_TABLE 1               /* [O B R] n not 1 to 64, or n <= 3t + 2d, or own >= n */
+#define MBRB_BUNDLE_LENGTH 2           /* [R]     the bundle has not 32 bytes */
+#define MBRB_RESERVED_BYTES 3          /* [R]     byte 6 or 7 of the bundle is not zero */
+#define MBRB_OTHER_DAY 4               /* [R]     the bundle is of another day */
+#define MBRB_SENDER_RANGE 5            /* [R]     its sender is n or above */
+#define MBRB_NUMBER_RANGE 6            /* [R]     its number is above 15 */
+#define MBRB_SIGNER_RANGE 7            /* [R]     it has a signer at n or above */
+#define MBRB_SENDER_UNSIGNED 8         /* [R]     its sender has not signed it */
+#define MBRB_BODY_LENGTH 9             /* [B]     the body has not 16 bytes */
+#define MBRB_OUT_LENGTH 10             /* [B R]   `out` has not 32 bytes */
+#define MBRB_RECORDS_LENGTH 20         /* [O B R] `records` has not MBRB_RECORDS_SIZE(n) bytes */
+#define MBRB_UNSOUND_RECORD 21         /* [B R]   the slot's record, or one of ours before the first free one, is none
+                                                  that these calls leave: section 8 */
+#define MBRB_ALREADY_DELIVERED 22      /* [R]     the slot is delivered already; this is usual, and nothing is wrong */
+#define MBRB_OWN_SIGNATURE_UNKNOWN 23  /* [R]     it has our signature, yet our record does not hold its body: section 8 */
+#define MBRB_OTHER_BODY 24             /* [R]     another body is held, and fewer than a quorum signed this one: its
+                                                  sender said two things */
+#define MBRB_NO_FREE_NUMBER 25         /* [B]     our sixteen numbers of the day are used up */
+
+/* Opens a day: sets every byte of the records to zero. Once for a day, before its first call, and not again after a
+ * restart (sections 4 and 5). The day has no part in the bytes: keep it beside them. */
+uint32_t mbrb_open(uint8_t n, uint8_t t, uint8_t d, uint8_t own, uint32_t day,
+                   uint8_t *records, size_t records_len);
 
 /* Announces a body: keeps it under our lowest free number and writes its bundle to `out`. */
 uint32_t mbrb_broadcast(uint8_t n, uint8_t t, uint8_t d, uint8_t own, uint32_t day,

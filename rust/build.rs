@@ -1,4 +1,4 @@
-//! Links the static library of the proved functions, which `rt staticlib host` builds.
+//! Links the static library of the proved functions, which `rt staticlib mbrb` builds.
 
 use std::path::PathBuf;
 
@@ -7,8 +7,8 @@ fn main() {
     let folder = package.join("../target/staticlib");
     println!(
         "cargo:rerun-if-changed={}",
-        folder.join("libhost.a").display()
+        folder.join("libmbrb.a").display()
     );
     println!("cargo:rustc-link-search=native={}", folder.display());
-    println!("cargo:rustc-link-lib=static=host");
+    println!("cargo:rustc-link-lib=static=mbrb");
 }

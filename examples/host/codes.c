@@ -1,4 +1,5 @@
-/* Every code of include/mbrb.h, provoked once: its number and name as the header has them, and what the call gave.
+/* Every code of include/mbrb.h, provoked once: its number and name as the header has them, and what the call gave. Then what the
+ * header says of places and bytes, and what happens to a host that gives yesterday's records today's day.
  *
  * Four units, of which one may be faulty; we are unit 1, on day 7. A quorum is 3. Each call starts from the records that its line needs.
  */
@@ -28,6 +29,11 @@ static void told(const char *name, uint32_t expected, uint32_t code)
 #define TOLD(name, call) told(#name, name, call)
 
 /* The calls with lengths that may be wrong. */
+static uint32_t open_with(uint8_t own, size_t records_len)
+{
+    return mbrb_open(UNITS, 1, 0, own, 7, records, records_len);
+}
+
 static uint32_t announce_with(uint8_t own, size_t body_len, size_t records_len, size_t out_len)
 {
     return mbrb_broadcast(UNITS, 1, 0, own, 7, body, body_len, records, records_len, out, out_len);
@@ -66,11 +72,12 @@ static void bring_with(size_t at, uint8_t value)
 
 static void open_day(void)
 {
-    memset(records, 0, sizeof records);
+    open_with(1, sizeof records);
 }
 
 static void refused_from_the_input(void)
 {
+    TOLD(MBRB_BAD_TABLE, open_with(UNITS, sizeof records));
     TOLD(MBRB_BAD_TABLE, announce_with(UNITS, sizeof body, sizeof records, sizeof out));
     TOLD(MBRB_BAD_TABLE, take_with(UNITS, sizeof bundle, sizeof records, sizeof out));
     TOLD(MBRB_BUNDLE_LENGTH, take_with(1, 31, sizeof records, sizeof out));
@@ -94,6 +101,7 @@ static void refused_from_the_input(void)
 
 static void refused_from_the_state(void)
 {
+    TOLD(MBRB_RECORDS_LENGTH, open_with(1, sizeof records - 1));
     TOLD(MBRB_RECORDS_LENGTH, announce_with(1, sizeof body, sizeof records - 1, sizeof out));
     TOLD(MBRB_RECORDS_LENGTH, take_with(1, sizeof bundle, sizeof records - 1, sizeof out));
     memset(records, 0xff, sizeof records);
@@ -116,7 +124,7 @@ static void refused_from_the_state(void)
 
 static void done(void)
 {
-    open_day();
+    TOLD(MBRB_OPENED, open_with(1, sizeof records));
     TOLD(MBRB_ANNOUNCED(0), announce());
     for (int number = 1; number < MBRB_NUMBERS - 1; number++)
         announce();
@@ -127,25 +135,74 @@ static void done(void)
     bring(1 | 8, 'a');
     TOLD(MBRB_DELIVERED, take());
     /* t comes before d: with 3 units and d = 1 the table is good, with t = 1 it is not. */
-    open_day();
+    TOLD(MBRB_OPENED, mbrb_open(3, 0, 1, 1, 7, records, MBRB_RECORDS_SIZE(3)));
+    TOLD(MBRB_BAD_TABLE, mbrb_open(3, 1, 0, 1, 7, records, MBRB_RECORDS_SIZE(3)));
     TOLD(MBRB_ANNOUNCED(0), mbrb_broadcast(3, 0, 1, 1, 7, body, sizeof body, records, MBRB_RECORDS_SIZE(3), out, sizeof out));
     TOLD(MBRB_BAD_TABLE, mbrb_broadcast(3, 1, 0, 1, 7, body, sizeof body, records, MBRB_RECORDS_SIZE(3), out, sizeof out));
 }
 
-/* What the last delivery left, read by the header's places. */
+/* How many bytes of the records are not zero. */
+static int written(void)
+{
+    int count = 0;
+
+    for (size_t i = 0; i < sizeof records; i++)
+        count += records[i] != 0;
+    return count;
+}
+
+/* What the last delivery left, read by the header's places. Bytes 8 to 31 of what is sent are those of the record. */
 static void places(void)
 {
     const uint8_t *record = records + MBRB_RECORD_AT(0, 0);
+    uint32_t code;
 
+    memset(records, 0xff, sizeof records);
+    open_day();
+    printf("written %d", written());
+    bring(1 | 4, 'a');
+    take();
+    printf(" and %d, record %d %d %c, bundle %d %d %d %d %c, next %d, sent %d\n", written(), record[0] == MBRB_RECORD_DELIVERED, record[MBRB_SIGNERS_AT + 7],
+           record[MBRB_BODY_AT], out[MBRB_DAY_AT + 3], out[MBRB_SENDER_AT], out[MBRB_NUMBER_AT], out[MBRB_SIGNERS_AT + 7],
+           out[MBRB_BODY_AT], records[MBRB_RECORD_AT(0, 1)] == MBRB_RECORD_EMPTY,
+           memcmp(out + MBRB_SIGNERS_AT, record + MBRB_SIGNERS_AT, MBRB_BUNDLE_SIZE - MBRB_SIGNERS_AT) == 0);
+    announce();
+    code = announce();
+    printf("announced %d as number %" PRIu32, MBRB_IS_ANNOUNCED(code), MBRB_NUMBER(code));
+    printf(", record %d at %d of %d, of %d units at most\n", records[MBRB_RECORD_AT(1, 1)] == MBRB_RECORD_HELD,
+           (int)MBRB_RECORD_AT(1, 1), (int)sizeof records, MBRB_UNITS_MAX);
+}
+
+/* Quorums of good tables: 1 unit, 2 units, 4 with a fault, 6 with a fault and a loss, 64 with 21 faults, 64 with 31 losses. */
+static void macros(void)
+{
+    printf("version %d.%d.%d is %s, quorums %u %u %u %u %u %u\n", MBRB_VERSION_MAJOR, MBRB_VERSION_MINOR, MBRB_VERSION_PATCH, MBRB_VERSION,
+           MBRB_QUORUM(1, 0), MBRB_QUORUM(2, 0), MBRB_QUORUM(4, 1), MBRB_QUORUM(6, 1), MBRB_QUORUM(64, 21), MBRB_QUORUM(64, 0));
+}
+
+/* Takes a bundle of sender 0 on day 8, over records that are day 7's: no call can know. */
+static uint32_t take_on_day_8(uint8_t number, unsigned signers, char text)
+{
+    bring(signers, text);
+    bundle[MBRB_DAY_AT + 3] = 8;
+    bundle[MBRB_NUMBER_AT] = number;
+    return mbrb_receive(UNITS, 1, 0, 1, 8, bundle, sizeof bundle, records, sizeof records, out, sizeof out);
+}
+
+/* Yesterday number 0 was delivered, and number 1 signed. Today both come again, and we sign neither: number 0 is refused, and number 1
+ * is delivered with our bit, for which there is no signature of today. */
+static void yesterday(void)
+{
     open_day();
     bring(1 | 4, 'a');
     take();
-    printf("record %d %d %c, bundle %d %d %d %d %c, next %d\n", record[0] == MBRB_RECORD_DELIVERED, record[MBRB_SIGNERS_AT + 7],
-           record[MBRB_BODY_AT], out[MBRB_DAY_AT + 3], out[MBRB_SENDER_AT], out[MBRB_NUMBER_AT], out[MBRB_SIGNERS_AT + 7],
-           out[MBRB_BODY_AT], records[MBRB_RECORD_AT(0, 1)] == MBRB_RECORD_EMPTY);
-    printf("announced %d", MBRB_IS_ANNOUNCED(announce()));
-    printf(", record %d at %d of %d, of %d units at most\n", records[MBRB_RECORD_AT(1, 0)] == MBRB_RECORD_HELD,
-           (int)MBRB_RECORD_AT(1, 0), (int)sizeof records, MBRB_UNITS_MAX);
+    bring(1, 'b');
+    bundle[MBRB_NUMBER_AT] = 1;
+    take();
+    printf("day 8 on the records of day 7: %" PRIu32, take_on_day_8(0, 1, 'c'));
+    printf(", then %" PRIu32, take_on_day_8(1, 1, 'b'));
+    printf(", then %" PRIu32, take_on_day_8(1, 1 | 4, 'b'));
+    printf(" and sent for day %d with signers %d\n", out[MBRB_DAY_AT + 3], out[MBRB_SIGNERS_AT + 7]);
 }
 
 int main(void)
@@ -154,5 +211,7 @@ int main(void)
     refused_from_the_state();
     done();
     places();
+    macros();
+    yesterday();
     return differ;
 }

@@ -1,7 +1,8 @@
-/* Four units of a cascade in one program, over a radio that is played from a list. Unit 3 is faulty: it says two things in one slot.
+/* Four units of a cascade in one program, over a radio that is played from a list. Unit 3 is faulty: it says two things in one slot. Unit 2
+ * loses power between a call and its sending, and restarts. In the end a new day begins.
  *
- * The first half is to copy: open_day, announce, take and show face the library. The second half stands in for a unit's hardware, the
- * radio and the key chip, and for the faulty unit. README.md says more.
+ * The first half is to copy: open_day, announce, take, finish, restart and show face the library. The second half stands in for a unit's
+ * hardware, the radio, the key chip and the clock, and for the faulty unit. README.md says more; sections are those of include/mbrb.h.
  */
 #include "mbrb.h"
 
@@ -10,46 +11,98 @@
 #include <stdio.h>
 #include <string.h>
 
-/* The same at all units. A quorum is 3 of these 4. */
+/* The same at all units. */
 #define UNITS 4
 #define FAULTS 1
 #define LOSSES 0
-#define DAY 7
 
-/* What a unit keeps until the day is over. In firmware the records are in memory that outlives a restart. */
-struct unit {
-    uint8_t own;
+/* What a unit saves, as one block: the records, their day beside them, and what the last call gave to do. The signatures of section 6 belong
+ * here too; the simulated key chip below keeps them. */
+struct block {
+    uint32_t day;
     uint8_t records[MBRB_RECORDS_SIZE(UNITS)];
+    uint8_t out[MBRB_BUNDLE_SIZE];
+    bool to_send;   /* `out` may not have been sent yet */
+    bool to_act_on; /* its body was delivered, and may not have been acted on */
 };
 
-/* The unit's hardware. What is sent goes to all units, the sending one among them, and is sent after the records are safe: a unit that
- * restarts must still know what it has signed. */
+struct unit {
+    uint8_t own;
+    struct block now;   /* working memory */
+    struct block saved; /* memory that outlives a restart */
+};
+
+/* The unit's hardware. What is sent goes to all units, the sending one among them. */
 static void send(uint8_t from, const uint8_t *bundle);
 static void check_signatures(uint8_t *bundle);
+static void act_on(uint8_t own, const uint8_t *body);
+static uint32_t clock_day(void);
+static bool power_fails(const struct unit *unit);
 
 static void print_slot(uint8_t sender, uint32_t number, const uint8_t *body);
 static void print_bundle(const uint8_t *arrived, const uint8_t *checked);
 
 /* ---- A sound unit: the parts to copy */
 
-/* Once a day, before the first call. Not after a restart: a unit that forgets what it signed may sign another body, and is faulty then. */
-static void open_day(struct unit *unit, uint8_t own)
+/* All or nothing. Firmware writes a second copy and then a mark that makes it the valid one, or a journal of single records. */
+static void save(struct unit *unit)
 {
-    unit->own = own;
-    memset(unit->records, 0, sizeof unit->records);
+    unit->saved = unit->now;
+}
+
+/* Section 4: a day is opened where the clock's is later than the block's, and at a unit that is new. It is never opened again: a clock that was
+ * set back opens nothing. */
+static void open_day(struct unit *unit, bool is_new)
+{
+    uint32_t code;
+
+    if (!is_new && clock_day() <= unit->now.day)
+        return;
+    unit->now.day = clock_day();
+    unit->now.to_send = unit->now.to_act_on = false;
+    code = mbrb_open(UNITS, FAULTS, LOSSES, unit->own, unit->now.day, unit->now.records, sizeof unit->now.records);
+    if (code == MBRB_OPENED)
+        save(unit);
+    printf("unit %d opens day %" PRIu32 ": %" PRIu32 "\n", unit->own, unit->now.day, code);
+}
+
+/* Does what the last call gave to do, and notes that it is done. If power fails here, restart does it again: the same bytes may be sent
+ * twice, and acting on a setpoint twice does no harm. Where it would, note it before acting. */
+static void finish(struct unit *unit)
+{
+    struct block *now = &unit->now;
+
+    if (now->to_act_on)
+        act_on(unit->own, now->out + MBRB_BODY_AT);
+    if (now->to_send)
+        send(unit->own, now->out);
+    if (now->to_send || now->to_act_on) {
+        now->to_send = now->to_act_on = false;
+        save(unit);
+    }
+}
+
+/* After the codes that have something to send: first safe, then sent. */
+static void save_and_finish(struct unit *unit, bool delivered)
+{
+    unit->now.to_send = true;
+    unit->now.to_act_on = delivered;
+    save(unit);
+    if (power_fails(unit))
+        return;
+    finish(unit);
 }
 
 static void announce(struct unit *unit, const uint8_t *body)
 {
-    uint8_t out[MBRB_BUNDLE_SIZE];
-    const uint32_t code = mbrb_broadcast(UNITS, FAULTS, LOSSES, unit->own, DAY, body, MBRB_BODY_SIZE,
-                                         unit->records, sizeof unit->records, out, sizeof out);
+    const uint32_t code = mbrb_broadcast(UNITS, FAULTS, LOSSES, unit->own, unit->now.day, body, MBRB_BODY_SIZE,
+                                         unit->now.records, sizeof unit->now.records, unit->now.out, sizeof unit->now.out);
 
     if (MBRB_IS_ANNOUNCED(code)) {
-        send(unit->own, out);
         printf("unit %d announces ", unit->own);
-        print_slot(unit->own, code - MBRB_ANNOUNCED(0), body);
+        print_slot(unit->own, MBRB_NUMBER(code), body);
         printf(": %" PRIu32 " announced\n", code);
+        save_and_finish(unit, false);
     } else if (code == MBRB_NO_FREE_NUMBER) {
         printf("unit %d has used its sixteen numbers: %" PRIu32 "\n", unit->own, code);
     } else {
@@ -58,18 +111,17 @@ static void announce(struct unit *unit, const uint8_t *body)
     }
 }
 
-/* Does what the code of a taken bundle asks for, and says it in words. */
-static const char *act_on(uint32_t code, const struct unit *unit, const uint8_t *out)
+/* The code of a taken bundle in words, and what each is for. */
+static const char *in_words(uint32_t code)
 {
     switch (code) {
     case MBRB_KEPT:
+        /* Nothing to send. The record has changed; it is saved with the next that must be. */
         return "kept";
     case MBRB_SIGNED:
-        send(unit->own, out);
         return "signed";
     case MBRB_DELIVERED:
-        /* Once for each slot, and never with different bodies at two sound units: here firmware acts on the body. */
-        send(unit->own, out);
+        /* Once for each slot, and never with different bodies at two sound units. */
         return "delivered";
     case MBRB_ALREADY_DELIVERED:
         /* Usual: the other units send on what they deliver. */
@@ -77,18 +129,20 @@ static const char *act_on(uint32_t code, const struct unit *unit, const uint8_t 
     case MBRB_OTHER_BODY:
         /* The sender signed both bodies, so it is faulty: worth a note to the installer. The slot may still be delivered. */
         return "refused, its sender said two things";
+    case MBRB_OTHER_DAY:
+        /* A late bundle of yesterday, or a unit whose clock is wrong. */
+        return "refused, of another day";
     case MBRB_BUNDLE_LENGTH:
     case MBRB_RESERVED_BYTES:
-    case MBRB_OTHER_DAY:
     case MBRB_SENDER_RANGE:
     case MBRB_NUMBER_RANGE:
     case MBRB_SIGNER_RANGE:
     case MBRB_SENDER_UNSIGNED:
-        /* Noise, a faulty unit, or one that is on another day. */
+        /* Noise, or a faulty unit. */
         return "refused, not a bundle to use";
     case MBRB_OWN_SIGNATURE_UNKNOWN:
     case MBRB_UNSOUND_RECORD:
-        /* Our records are not what the calls left there. Stop until the next day: we might sign a second body. */
+        /* Section 8: no more calls on these records until the next day. */
         return "refused, our records are lost";
     default:
         /* MBRB_BAD_TABLE, MBRB_OUT_LENGTH, MBRB_RECORDS_LENGTH: a mistake in this program. */
@@ -99,28 +153,42 @@ static const char *act_on(uint32_t code, const struct unit *unit, const uint8_t 
 /* `arrived` is the bundle of a frame, 32 bytes. The signatures come beside it in the frame, and go to the key chip. */
 static void take(struct unit *unit, const uint8_t *arrived)
 {
-    uint8_t bundle[MBRB_BUNDLE_SIZE], out[MBRB_BUNDLE_SIZE];
+    uint8_t bundle[MBRB_BUNDLE_SIZE];
     uint32_t code;
-    const char *words;
 
     /* A copy: nobody may write to the bundle during the call, and a radio fills its own buffer when it likes. */
     memcpy(bundle, arrived, sizeof bundle);
     check_signatures(bundle);
-    code = mbrb_receive(UNITS, FAULTS, LOSSES, unit->own, DAY, bundle, sizeof bundle,
-                        unit->records, sizeof unit->records, out, sizeof out);
-    words = act_on(code, unit, out);
+    code = mbrb_receive(UNITS, FAULTS, LOSSES, unit->own, unit->now.day, bundle, sizeof bundle,
+                        unit->now.records, sizeof unit->now.records, unit->now.out, sizeof unit->now.out);
 
     printf("unit %d takes ", unit->own);
     print_bundle(arrived, bundle);
-    printf(": %" PRIu32 " %s\n", code, words);
+    printf(": %" PRIu32 " %s\n", code, in_words(code));
+    if (code == MBRB_SIGNED || code == MBRB_DELIVERED)
+        save_and_finish(unit, code == MBRB_DELIVERED);
 }
 
-/* What is delivered stays in the records until the day is over, for a display. Firmware acts where act_on says so, and not on this. */
+/* Section 5, by its steps. Firmware that cannot load the block whole makes no call until the next day. */
+static void restart(struct unit *unit)
+{
+    unit->now = unit->saved; /* 1. load the block */
+    printf("unit %d restarts on day %" PRIu32, unit->own, unit->now.day);
+    if (unit->now.to_send) {
+        printf(", sends ");
+        print_bundle(unit->now.out, unit->now.out);
+    }
+    printf("%s\n", unit->now.to_act_on ? ", acts on it" : "");
+    open_day(unit, false); /* 2. compare its day with the clock's; 3. the same day is not opened again */
+    finish(unit);          /* 4. send, and 5. act on what is not noted as done; 6. go on */
+}
+
+/* What is delivered stays in the records until the day is over, for a display. Firmware acts in finish, and not on this. */
 static void show(const struct unit *unit)
 {
     for (uint8_t sender = 0; sender < UNITS; sender++)
         for (uint8_t number = 0; number < MBRB_NUMBERS; number++) {
-            const uint8_t *record = unit->records + MBRB_RECORD_AT(sender, number);
+            const uint8_t *record = unit->now.records + MBRB_RECORD_AT(sender, number);
             if (record[0] == MBRB_RECORD_DELIVERED) {
                 printf("unit %d has delivered ", unit->own);
                 print_slot(sender, number, record + MBRB_BODY_AT);
@@ -129,14 +197,40 @@ static void show(const struct unit *unit)
         }
 }
 
-/* ---- The radio and the key chip, simulated */
+/* ---- The clock, the power, the radio and the key chip, simulated */
+
+static uint32_t day_of_clock = 7;
+static const struct unit *without_power; /* it fails after the next save of this unit */
+
+static int acted[UNITS]; /* on how many bodies each unit has acted */
+
+static uint32_t clock_day(void)
+{
+    return day_of_clock;
+}
+
+/* Here the heating curve gets the setpoint, or the unit takes the lead. */
+static void act_on(uint8_t own, const uint8_t *body)
+{
+    (void)body;
+    acted[own]++;
+}
+
+static bool power_fails(const struct unit *unit)
+{
+    if (unit != without_power)
+        return false;
+    without_power = NULL;
+    printf("unit %d loses power\n", unit->own);
+    return true;
+}
 
 #define SIGNER(unit) (1u << (unit))
 
 static struct {
     uint8_t from;
     uint8_t bundle[MBRB_BUNDLE_SIZE];
-} sent[16];
+} sent[32];
 static size_t sent_count;
 
 /* Here the key chip adds the signatures that the bits name, and the radio sends them with the bundle. */
@@ -206,7 +300,7 @@ static void lie(uint8_t sender, unsigned signers, const uint8_t *body)
 {
     uint8_t bundle[MBRB_BUNDLE_SIZE] = {0};
 
-    bundle[MBRB_DAY_AT + 3] = DAY;
+    bundle[MBRB_DAY_AT + 3] = (uint8_t)clock_day();
     bundle[MBRB_SENDER_AT] = sender;
     bundle[MBRB_SIGNERS_AT + 7] = (uint8_t)signers;
     memcpy(bundle + MBRB_BODY_AT, body, MBRB_BODY_SIZE);
@@ -236,7 +330,7 @@ static const struct {
     {3, 2},                 /* unit 0 has not signed this */
     {5, 3}, {7, 0},         /* unit 3 sends 7, lead 1 with a quorum that it made up */
     {6, 1},                 /* unit 1 has signed lead 1, and 2 signers are no quorum for lead 2 */
-    {4, 2}, {6, 2},         /* unit 2 has heard neither sender yet; it sends 8, signed by 0 1 2, and 9, signed by 0 2 3 */
+    {4, 2}, {6, 2},         /* unit 2 has heard neither sender yet; after its restart it sends 8, signed by 0 1 2, then 9, signed by 0 2 3 */
     {2, 2},                 /* late */
     {9, 1},                 /* a quorum for lead 2: unit 1 delivers what it has not signed, and sends 10 */
     {5, 0}, {10, 0},        /* unit 0 sends 11 */
@@ -245,12 +339,16 @@ static const struct {
     {0, 2}, {4, 1}, {13, 2}, {5, 1}, {5, 2}, {6, 0}, {11, 2}, /* late */
 };
 
+#define LOSES_POWER 8 /* the place in the list above at which unit 2 loses power, and all that was not saved */
+
 int main(void)
 {
-    struct unit units[LIAR]; /* the sound ones: 0, 1 and 2 */
+    struct unit units[LIAR] = {{0}}; /* the sound ones: 0, 1 and 2 */
 
-    for (uint8_t u = 0; u < LIAR; u++)
-        open_day(&units[u], u);
+    for (uint8_t u = 0; u < LIAR; u++) {
+        units[u].own = u;
+        open_day(&units[u], true);
+    }
 
     announce(&units[0], BODY("setpoint 21.50 C"));              /* bundle 0 */
     lie(LIAR, SIGNER(LIAR), BODY("lead is unit 1  "));          /* bundle 1, for unit 1 */
@@ -258,14 +356,30 @@ int main(void)
     lie(0, SIGNER(0) | SIGNER(LIAR), BODY("setpoint 95.00 C")); /* bundle 3, in unit 0's name */
 
     for (size_t i = 0; i < sizeof arrivals / sizeof arrivals[0]; i++) {
+        struct unit *unit = &units[arrivals[i].unit % LIAR];
         const uint8_t *bundle = sent[arrivals[i].bundle].bundle;
-        if (arrivals[i].unit == LIAR)
+        if (arrivals[i].unit == LIAR) {
             hear(bundle);
-        else
-            take(&units[arrivals[i].unit], bundle);
+            continue;
+        }
+        without_power = i == LOSES_POWER ? unit : NULL;
+        take(unit, bundle);
+        if (i == LOSES_POWER) {
+            memset(&unit->now, 0xa5, sizeof unit->now);
+            restart(unit);
+        }
     }
-
     for (uint8_t u = 0; u < LIAR; u++)
         show(&units[u]);
+    for (uint8_t u = 0; u < LIAR; u++)
+        printf("unit %d has acted on %d bodies\n", u, acted[u]);
+
+    /* The next day: numbers start from 0 again, and a bundle of yesterday is late. */
+    day_of_clock = 8;
+    for (uint8_t u = 0; u < LIAR; u++)
+        open_day(&units[u], false);
+    announce(&units[0], BODY("setpoint 22.00 C"));
+    take(&units[1], sent[4].bundle);
+    take(&units[1], sent[sent_count - 1].bundle);
     return 0;
 }

@@ -5,6 +5,15 @@
 use crate::Config;
 
 extern "C" {
+    fn mbrb_open(
+        n: u8,
+        t: u8,
+        d: u8,
+        own: u8,
+        day: u32,
+        records: *mut u8,
+        records_len: usize,
+    ) -> u32;
     fn mbrb_broadcast(
         n: u8,
         t: u8,
@@ -33,11 +42,28 @@ extern "C" {
     ) -> u32;
 }
 
+/// Opens a day: the host's code of the answer.
+#[inline]
+pub fn open(config: &Config, records: &mut [u8]) -> u32 {
+    // SAFETY: each pointer comes with the length of its slice, and the borrows keep the slices apart and lent for the call. The function
+    // asks for nothing else: its contract has no `requires`.
+    unsafe {
+        mbrb_open(
+            config.n,
+            config.t,
+            config.d,
+            config.own,
+            config.day,
+            records.as_mut_ptr(),
+            records.len(),
+        )
+    }
+}
+
 /// Announces a payload: the host's code of the answer.
 #[inline]
 pub fn broadcast(config: &Config, payload: &[u8], records: &mut [u8], out: &mut [u8]) -> u32 {
-    // SAFETY: each pointer comes with the length of its slice, and the borrows keep the three slices apart and lent for the call. The
-    // function asks for nothing else: its contract has no `requires`.
+    // SAFETY: as for `open`.
     unsafe {
         mbrb_broadcast(
             config.n,
@@ -58,7 +84,7 @@ pub fn broadcast(config: &Config, payload: &[u8], records: &mut [u8], out: &mut 
 /// Takes a bundle: the host's code of the answer.
 #[inline]
 pub fn receive(config: &Config, bundle: &[u8], records: &mut [u8], out: &mut [u8]) -> u32 {
-    // SAFETY: as for `broadcast`.
+    // SAFETY: as for `open`.
     unsafe {
         mbrb_receive(
             config.n,

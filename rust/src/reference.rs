@@ -1,4 +1,4 @@
-//! Broadcast and receive, written from document 01 alone, to be compared with the proved functions.
+//! Opening, broadcast and receive, written from document 01 alone, to be compared with the proved functions.
 //!
 //! Every check comes before the first store, so a refusal changes no byte.
 
@@ -221,6 +221,15 @@ fn first_empty<'a>(
     }
 }
 
+/// Makes every record empty. Document 01: opening a day.
+pub fn open(config: &Config, records: &mut [u8]) -> Result<(), Refusal> {
+    require(config.good(), Refusal::ConfigNotGood)?;
+    let complete = records.len() == config.records_length();
+    require(complete, Refusal::RecordsLength)?;
+    records.fill(0);
+    Ok(())
+}
+
 /// Signs the payload in our lowest empty slot, puts its bundle into `out` and gives the slot's
 /// number. Document 01: announcing.
 pub fn broadcast(
@@ -289,6 +298,14 @@ pub fn receive(
     Ok(receipt)
 }
 
+/// `open` for a C host: the refusal's number, or 0.
+pub fn open_code(config: &Config, records: &mut [u8]) -> u32 {
+    match open(config, records) {
+        Ok(()) => 0,
+        Err(refusal) => refusal.number(),
+    }
+}
+
 /// `broadcast` for a C host: the refusal's number, or 200 plus the slot's number.
 pub fn broadcast_code(config: &Config, payload: &[u8], records: &mut [u8], out: &mut [u8]) -> u32 {
     match broadcast(config, payload, records, out) {
@@ -297,7 +314,7 @@ pub fn broadcast_code(config: &Config, payload: &[u8], records: &mut [u8], out: 
     }
 }
 
-/// `receive` for a C host: the refusal's number, or 100 kept, 101 signed, 102 delivered.
+/// `receive` for a C host: 100 for kept, 101 for signed, 102 for delivered, or the refusal's number.
 pub fn receive_code(config: &Config, bundle: &[u8], records: &mut [u8], out: &mut [u8]) -> u32 {
     match receive(config, bundle, records, out) {
         Ok(Receipt::Kept(_)) => 100,
@@ -429,6 +446,23 @@ mod tests {
             let payload = &PAYLOAD[..payload_length];
             assert_eq!(broadcast_code(&config, payload, buffer, out_buffer), sent);
             assert_eq!((records, out), ([0; 2048], UNSENT));
+        }
+    }
+
+    #[test]
+    fn a_day_is_opened_whatever_was_there_and_only_where_table_and_length_fit() {
+        let (good, bad) = (config(4, 1, 0, 1), config(5, 1, 1, 1));
+        let rows = [
+            (good, 2048, 0, 0),
+            (good, 2047, 20, 0xa5),
+            (good, 0, 20, 0xa5),
+            (bad, 2560, 1, 0xa5),
+            (bad, 0, 1, 0xa5),
+        ];
+        for (config, length, code, left) in rows {
+            let mut records = vec![0xa5; length];
+            assert_eq!(open_code(&config, &mut records), code);
+            assert!(records.iter().all(|&byte| byte == left));
         }
     }
 

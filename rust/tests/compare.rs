@@ -59,6 +59,9 @@ fn step(
     let (code, out) = call_both(pair, &case, &mut node.records)?;
     let clause = node.clause(&case);
     tally.count(&case, &node.records.before, clause, code);
+    if case.kind == Kind::Open && code == 0 {
+        node.forget();
+    }
     tally.lives += u64::from(node.completes_life(&case, code));
     if code > 100 {
         system.keep_sent(random, &out);
@@ -78,7 +81,7 @@ fn host_and_reference_agree_and_every_code_occurs() {
 /// The codes of one call by each implementation, on memory that is the same at both, and the same afterwards.
 fn codes_in_arenas(shift: usize, kind: Kind, lengths: [usize; 3], input: &[u8]) -> u32 {
     let [(code, bytes), (other_code, other_bytes)] = [HOST, REFERENCE].map(|implementation| {
-        let mut arena = Arena::new(&mut Random::new(SEED), shift, lengths, input);
+        let mut arena = Arena::new(kind, shift, lengths, input);
         let code = arena.call(&implementation, kind);
         (code, arena.bytes)
     });
@@ -91,6 +94,7 @@ fn codes_in_arenas(shift: usize, kind: Kind, lengths: [usize; 3], input: &[u8]) 
 fn buffers_may_start_anywhere_and_nothing_around_them_changes() {
     for shift in 0..32 {
         let at = |kind, input: &[u8]| codes_in_arenas(shift, kind, [input.len(), 2048, 32], input);
+        assert_eq!(at(Kind::Open, &[]), 0);
         assert_eq!(at(Kind::Broadcast, &[b'a'; 16]), 200);
         assert_eq!(at(Kind::Receive, &bundle(1)), 101);
         assert_eq!(at(Kind::Receive, &bundle(1 | 4)), 102);
@@ -101,8 +105,10 @@ fn buffers_may_start_anywhere_and_nothing_around_them_changes() {
 #[test]
 fn a_length_counts_in_full() {
     for more in [0x100, 0x1_0000, 0x100_0000] {
+        let open = |lengths| codes_in_arenas(0, Kind::Open, lengths, &[]);
         let broadcast = |lengths| codes_in_arenas(0, Kind::Broadcast, lengths, &[b'a'; 16]);
         let receive = |lengths| codes_in_arenas(0, Kind::Receive, lengths, &bundle(1));
+        assert_eq!(open([0, 2048 + more, 32]), 20);
         assert_eq!(broadcast([16 + more, 2048, 32]), 9);
         assert_eq!(broadcast([16, 2048, 32 + more]), 10);
         assert_eq!(broadcast([16, 2048 + more, 32]), 20);
@@ -170,6 +176,39 @@ fn a_wrong_outgoing_byte_is_found() {
     });
     assert_eq!(difference.codes, [100, 100]);
     assert!(!difference.records_differ() && difference.outs_differ());
+}
+
+#[test]
+fn a_byte_left_by_an_opening_is_found() {
+    let difference = found(Implementation {
+        open: |config, records| {
+            let last = records.last().copied();
+            let code = reference::open_code(config, records);
+            if let (0, Some(byte)) = (code, last) {
+                *records.last_mut().expect("it has a last byte") = byte;
+            }
+            code
+        },
+        ..REFERENCE
+    });
+    assert_eq!(difference.codes, [0, 0]);
+    assert!(difference.records_differ() && !difference.outs_differ());
+}
+
+#[test]
+fn a_wrong_length_opened_is_found() {
+    let difference = found(Implementation {
+        open: |config, records| {
+            let code = reference::open_code(config, records);
+            if code == 20 {
+                records.fill(0);
+                return 0;
+            }
+            code
+        },
+        ..REFERENCE
+    });
+    assert_eq!(difference.codes, [20, 0]);
 }
 
 #[test]

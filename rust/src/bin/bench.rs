@@ -11,11 +11,18 @@ use std::time::Instant;
 
 const DAY: u32 = 7;
 const SLOTS: u8 = 16;
-/// How many calls a row has at least. Their buffers together fit a second-level cache.
+/// How many calls a row has at least, but for openings. Their buffers together fit a second-level cache.
 const CALLS: usize = 1024;
 const ROUNDS: usize = 401;
 
-/// The reference behind the interface of the exported functions: five numbers and three slices, in a call that is not inlined.
+/// The reference behind the interface of the exported functions: five numbers and slices, in a call that is not inlined.
+#[no_mangle]
+#[inline(never)]
+fn reference_open(n: u8, t: u8, d: u8, own: u8, day: u32, records: &mut [u8]) -> u32 {
+    let config = Config { n, t, d, own, day };
+    reference::open_code(&config, records)
+}
+
 #[no_mangle]
 #[inline(never)]
 #[allow(clippy::too_many_arguments)]
@@ -188,10 +195,39 @@ fn broadcasts(name: &'static str, n: u8, used: u8) -> Row {
     }
 }
 
+/// Days opened, each on a buffer of any bytes.
+fn openings(name: &'static str, n: u8) -> Row {
+    let mut random = Random::new(3);
+    let config = config_of(n, 1);
+    // Together they have 512 KiB, whichever n.
+    let buffer = |_| {
+        let words = 64 * usize::from(n);
+        (0..words)
+            .flat_map(|_| random.word().to_ne_bytes())
+            .collect()
+    };
+    let buffers: Vec<Vec<u8>> = (0..CALLS / usize::from(n)).map(buffer).collect();
+    let calls = (0..buffers.len())
+        .map(|buffer| Ready {
+            config,
+            input: Vec::new(),
+            buffer,
+        })
+        .collect();
+    Row {
+        name,
+        n,
+        code: 0,
+        calls,
+        buffers,
+    }
+}
+
 fn rows() -> Vec<Row> {
     let rows_of = |n| {
         let quorum = config_of(n, 1).quorum();
         [
+            openings("opening", n),
             receives("taking: kept", n, Found::Held(2), 1, 100),
             receives("taking: signed", n, Found::Empty, 1, 101),
             receives(
@@ -209,9 +245,20 @@ fn rows() -> Vec<Row> {
     [4, 64].into_iter().flat_map(rows_of).collect()
 }
 
+#[derive(Clone, Copy)]
+enum Kind {
+    Open,
+    Broadcast,
+    Receive,
+}
+
 impl Row {
-    fn broadcasts(&self) -> bool {
-        self.code >= 200
+    fn kind(&self) -> Kind {
+        match self.code {
+            0 => Kind::Open,
+            200.. => Kind::Broadcast,
+            _ => Kind::Receive,
+        }
     }
 
     /// Every call of the row once.
@@ -242,11 +289,20 @@ impl Row {
                 }
             };
         }
-        match (side, self.broadcasts()) {
-            (Side::Proved, true) => each!(host::broadcast),
-            (Side::Proved, false) => each!(host::receive),
-            (Side::Reference, true) => each!(by_numbers!(reference_broadcast)),
-            (Side::Reference, false) => each!(by_numbers!(reference_receive)),
+        macro_rules! without_input {
+            ($call:expr) => {
+                |c: &Config, _: &[u8], records: &mut [u8], _: &mut [u8]| $call(c, records)
+            };
+        }
+        let open_by_numbers =
+            |c: &Config, records: &mut [u8]| reference_open(c.n, c.t, c.d, c.own, c.day, records);
+        match (side, self.kind()) {
+            (Side::Proved, Kind::Open) => each!(without_input!(host::open)),
+            (Side::Proved, Kind::Broadcast) => each!(host::broadcast),
+            (Side::Proved, Kind::Receive) => each!(host::receive),
+            (Side::Reference, Kind::Open) => each!(without_input!(open_by_numbers)),
+            (Side::Reference, Kind::Broadcast) => each!(by_numbers!(reference_broadcast)),
+            (Side::Reference, Kind::Receive) => each!(by_numbers!(reference_receive)),
         }
     }
 
@@ -284,11 +340,13 @@ impl Row {
 
     /// Instructions of a call, counted in a run of this program that makes the row's calls once.
     fn instructions(&self, number: usize, side: Side) -> Option<f64> {
-        let (who, function) = match (side, self.broadcasts()) {
-            (Side::Proved, true) => ("proved", "mbrb_broadcast"),
-            (Side::Proved, false) => ("proved", "mbrb_receive"),
-            (Side::Reference, true) => ("reference", "reference_broadcast"),
-            (Side::Reference, false) => ("reference", "reference_receive"),
+        let (who, function) = match (side, self.kind()) {
+            (Side::Proved, Kind::Open) => ("proved", "mbrb_open"),
+            (Side::Proved, Kind::Broadcast) => ("proved", "mbrb_broadcast"),
+            (Side::Proved, Kind::Receive) => ("proved", "mbrb_receive"),
+            (Side::Reference, Kind::Open) => ("reference", "reference_open"),
+            (Side::Reference, Kind::Broadcast) => ("reference", "reference_broadcast"),
+            (Side::Reference, Kind::Receive) => ("reference", "reference_receive"),
         };
         let output = Command::new("valgrind")
             .args(["--tool=callgrind", "--callgrind-out-file=/dev/null"])

@@ -23,8 +23,9 @@ pub struct Arena {
 }
 
 impl Arena {
-    /// Random bytes around empty records, and an input for the call.
-    pub fn new(random: &mut Random, shift: usize, lengths: [usize; 3], input: &[u8]) -> Arena {
+    /// Random bytes, an input for the call among them, and empty records for one of an opened day.
+    pub fn new(kind: Kind, shift: usize, lengths: [usize; 3], input: &[u8]) -> Arena {
+        let mut random = Random::new(1);
         let size = lengths.iter().sum::<usize>() + 4 * ROOM;
         let bytes = (0..size).map(|_| random.word() as u8).collect();
         let mut arena = Arena {
@@ -35,7 +36,9 @@ impl Arena {
         let (given, records, _) = arena.lent();
         let length = input.len().min(given.len());
         given[..length].copy_from_slice(&input[..length]);
-        records.fill(0);
+        if kind != Kind::Open {
+            records.fill(0);
+        }
         arena
     }
 
@@ -52,6 +55,7 @@ impl Arena {
     pub fn call(&mut self, implementation: &Implementation, kind: Kind) -> u32 {
         let (given, records, out) = self.lent();
         match kind {
+            Kind::Open => (implementation.open)(&CONFIG, records),
             Kind::Broadcast => (implementation.broadcast)(&CONFIG, given, records, out),
             Kind::Receive => (implementation.receive)(&CONFIG, given, records, out),
         }

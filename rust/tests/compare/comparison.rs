@@ -5,25 +5,29 @@ use std::fmt;
 
 type Call = fn(&Config, &[u8], &mut [u8], &mut [u8]) -> u32;
 
-/// The two calls of a C host; each gives its code.
+/// The calls of a C host; each gives its code.
 #[derive(Clone, Copy)]
 pub struct Implementation {
+    pub open: fn(&Config, &mut [u8]) -> u32,
     pub broadcast: Call,
     pub receive: Call,
 }
 
 pub const HOST: Implementation = Implementation {
+    open: host::open,
     broadcast: host::broadcast,
     receive: host::receive,
 };
 
 pub const REFERENCE: Implementation = Implementation {
+    open: reference::open_code,
     broadcast: reference::broadcast_code,
     receive: reference::receive_code,
 };
 
 #[derive(Clone, Copy, Debug, PartialEq, Eq, PartialOrd, Ord)]
 pub enum Kind {
+    Open,
     Broadcast,
     Receive,
 }
@@ -38,7 +42,7 @@ pub fn place(sender: u8, seq: u8) -> usize {
 pub struct Case {
     pub kind: Kind,
     pub config: Config,
-    /// the payload of a broadcast, the bundle of a receive
+    /// the payload of a broadcast, the bundle of a receive; an opening has none
     pub input: Vec<u8>,
     pub records_length: usize,
     /// The call gets the first `out_length` of these; those behind must stay.
@@ -47,7 +51,8 @@ pub struct Case {
 }
 
 impl Case {
-    /// Where the records start that the answer may depend on, and how many bytes they have. None for a bundle of no slot.
+    /// Where the records start that the answer may depend on, and how many bytes they have. None for an opening, nor for a bundle of no
+    /// slot.
     pub fn concerned(&self) -> (usize, usize) {
         let Config { n, own, .. } = self.config;
         match (self.kind, self.input.get(4), self.input.get(5)) {
@@ -60,13 +65,16 @@ impl Case {
     }
 
     fn run(&self, implementation: &Implementation, records: &mut [u8]) -> (u32, [u8; 64]) {
-        let call = match self.kind {
-            Kind::Broadcast => implementation.broadcast,
-            Kind::Receive => implementation.receive,
-        };
         let mut out = self.out;
         let lent = &mut records[..self.records_length];
-        let code = call(&self.config, &self.input, lent, &mut out[..self.out_length]);
+        let lent_out = &mut out[..self.out_length];
+        let code = match self.kind {
+            Kind::Open => (implementation.open)(&self.config, lent),
+            Kind::Broadcast => {
+                (implementation.broadcast)(&self.config, &self.input, lent, lent_out)
+            }
+            Kind::Receive => (implementation.receive)(&self.config, &self.input, lent, lent_out),
+        };
         (code, out)
     }
 }

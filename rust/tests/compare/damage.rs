@@ -8,7 +8,12 @@ use mbrb::{random::Random, Config};
 /// Does one thing to a call that some refusal is about.
 pub fn damage(random: &mut Random, case: &mut Case, node: &Node) {
     let length = 512 * usize::from(node.config.n);
-    let kinds = if case.kind == Kind::Receive { 12 } else { 4 };
+    // Opening has a table and records alone.
+    let kinds = match case.kind {
+        Kind::Open => 2,
+        Kind::Broadcast => 4,
+        Kind::Receive => 12,
+    };
     match random.below(kinds) {
         0 => {
             case.config = bad_config(random, node.config);
@@ -17,15 +22,15 @@ pub fn damage(random: &mut Random, case: &mut Case, node: &Node) {
                 case.records_length = right;
             }
         }
-        1 => case.out_length = [0, 31, 33, 64][random.below(4)],
-        2 => {
+        1 => {
             let lengths = [0, length - 512, length - 1, length + 1, length + 512];
             case.records_length = lengths[random.below(5)];
         }
+        2 => case.out_length = [0, 31, 33, 64][random.below(4)],
         3 => {
             let length = match case.kind {
-                Kind::Broadcast => random.below(41),
                 Kind::Receive => [0, 16, 31, 33, 64][random.below(5)],
+                _ => random.below(41),
             };
             case.input.resize(length, 0);
         }

@@ -16,19 +16,32 @@ pub struct Node {
 
 impl Node {
     pub fn new(random: &mut Random, config: Config) -> Node {
-        let mut records = Records::zeroed(config.n);
-        // What lies in the slots that a call is not about must not matter, so it need not be well-formed either.
-        if random.once_in(4) {
-            for place in (0..records.room()).step_by(32) {
-                records.put(place, &bytes(random));
-            }
-        }
-        Node {
+        let records = Records::zeroed(config.n);
+        let mut node = Node {
             config,
             records,
             malformed: BTreeMap::new(),
             stages: BTreeMap::new(),
+        };
+        // What lies in the slots that a call is not about must not matter, so it need not be well-formed either.
+        if random.once_in(4) {
+            node.scramble(random);
         }
+        node
+    }
+
+    /// Any bytes in the whole buffer, as before a day is opened.
+    pub fn scramble(&mut self, random: &mut Random) {
+        for place in (0..self.records.room()).step_by(32) {
+            self.records.put(place, &bytes(random));
+        }
+        self.forget();
+    }
+
+    /// Nothing is known any more of what the records hold.
+    pub fn forget(&mut self) {
+        self.malformed.clear();
+        self.stages.clear();
     }
 
     fn put(&mut self, place: usize, record: &[u8; 32], clause: Option<Clause>) {

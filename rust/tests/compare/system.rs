@@ -93,6 +93,22 @@ impl System {
         }
     }
 
+    /// A day is opened at a node, half the time on a buffer of any bytes.
+    fn opening(&mut self, random: &mut Random, at: usize) -> Case {
+        let node = &mut self.nodes[at];
+        if random.once_in(2) {
+            node.scramble(random);
+        }
+        Case {
+            kind: Kind::Open,
+            config: node.config,
+            input: Vec::new(),
+            records_length: 512 * usize::from(node.config.n),
+            out: bytes(random),
+            out_length: 32,
+        }
+    }
+
     /// Now and then another record replaces one of those in use: most slots are delivered soon, and answer nothing new then.
     pub fn disturb(&mut self, random: &mut Random) {
         if !random.once_in(8) {
@@ -120,8 +136,22 @@ impl System {
     }
 
     /// The next call and the node it is at.
-    pub fn next_call(&self, random: &mut Random) -> (usize, Case) {
+    pub fn next_call(&mut self, random: &mut Random) -> (usize, Case) {
         let at = random.below(self.nodes.len());
+        let mut case = if random.once_in(20) {
+            self.opening(random, at)
+        } else {
+            self.call_of_the_day(random, at)
+        };
+        // Two defects at once show which check comes first.
+        let defects = [0, 0, 0, 0, 0, 0, 0, 1, 1, 2][random.below(10)];
+        for _ in 0..defects {
+            damage(random, &mut case, &self.nodes[at]);
+        }
+        (at, case)
+    }
+
+    fn call_of_the_day(&self, random: &mut Random, at: usize) -> Case {
         let node = &self.nodes[at];
         let broadcasts = random.once_in(self.broadcast_once_in);
         let (kind, input) = if broadcasts {
@@ -130,20 +160,14 @@ impl System {
         } else {
             (Kind::Receive, self.bundle(random, node).to_vec())
         };
-        let mut case = Case {
+        Case {
             kind,
             config: node.config,
             input,
             records_length: 512 * usize::from(node.config.n),
             out: bytes(random),
             out_length: 32,
-        };
-        // Two defects at once show which check comes first.
-        let defects = [0, 0, 0, 0, 0, 0, 0, 1, 1, 2][random.below(10)];
-        for _ in 0..defects {
-            damage(random, &mut case, node);
         }
-        (at, case)
     }
 
     fn bundle(&self, random: &mut Random, node: &Node) -> [u8; 32] {

@@ -32,7 +32,7 @@ impl Tally {
     pub fn count(&mut self, case: &Case, records: &[u8], clause: Option<Clause>, code: u32) {
         self.calls += 1;
         *self.codes.entry((case.kind, code)).or_default() += 1;
-        if code >= 100 {
+        if code == 0 || code >= 100 {
             let key = (case.kind, case.config.n);
             *self.accepted.entry(key).or_default() += 1;
         }
@@ -51,12 +51,14 @@ impl Tally {
         let codes = BROADCAST_CODES.map(|code| (Kind::Broadcast, code));
         let codes = codes
             .into_iter()
+            .chain(OPEN_CODES.map(|code| (Kind::Open, code)))
             .chain((200..=215).map(|code| (Kind::Broadcast, code)))
             .chain(RECEIVE_CODES.map(|code| (Kind::Receive, code)));
         assert_seen("code", &self.codes, codes, least);
         let kinds = [Kind::Broadcast, Kind::Receive];
-        let sizes = kinds
+        let sizes = [Kind::Open]
             .into_iter()
+            .chain(kinds)
             .flat_map(|k| (1..=64).map(move |n| (k, n)));
         assert_seen("accepted at n", &self.accepted, sizes, least);
         let clauses = kinds.into_iter().flat_map(|k| CLAUSES.map(|c| (k, c)));
@@ -70,6 +72,8 @@ impl Tally {
         );
     }
 }
+
+const OPEN_CODES: [u32; 3] = [0, 1, 20];
 
 const BROADCAST_CODES: [u32; 6] = [1, 9, 10, 20, 21, 25];
 
@@ -129,7 +133,7 @@ impl fmt::Display for Tally {
         show(f, "21, by what makes the record malformed", &self.clauses)?;
         show(f, "what a bundle meets, and the code", &self.meetings)?;
         writeln!(f, "whole lives of slots: {}", self.lives)?;
-        for kind in [Kind::Broadcast, Kind::Receive] {
+        for kind in [Kind::Open, Kind::Broadcast, Kind::Receive] {
             let counts = self.accepted.range((kind, 0)..=(kind, 255));
             let (sizes, least) = (counts.clone().count(), counts.map(|(_, count)| count).min());
             let least = least.unwrap_or(&0);

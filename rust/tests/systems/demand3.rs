@@ -1,4 +1,4 @@
-//! Demand 3, sentence by sentence, of a list of calls and of nothing else: its premises, and its conclusions.
+//! Demand 3 of a list of calls and of nothing else: each of its premises and conclusions is a function here.
 
 use crate::trace::{bit, Bundle, Call, Fields, Payload, Slot, Step, System};
 use std::collections::{HashMap, HashSet};
@@ -30,7 +30,7 @@ pub struct Violation {
     pub slot: Slot,
 }
 
-/// "f at most t, n > 3t + 2d", and the calls are those that the demand speaks of.
+/// The premises: a good table, no more faulty nodes than it allows, and calls that the demand speaks of.
 pub fn lawful(system: &System, trace: &[Step]) -> Result<(), String> {
     if !system.config(0).good() || system.faulty.count_ones() > u32::from(system.t) {
         return Err(format!("{system}: no system of demand 3"));
@@ -50,13 +50,13 @@ pub fn lawful(system: &System, trace: &[Step]) -> Result<(), String> {
     Ok(())
 }
 
-/// "calls at its sound units, .. in which each unit called opens the day first, and once only"
+/// Calls are at correct nodes, and a node's first call, and no later one, is its opening.
 fn opens_first_and_once(system: &System, step: &Step, first: bool) -> bool {
     system.correct() & bit(step.node) != 0 && matches!(step.call, Call::Open) == first
 }
 
-/// "in each bundle given to taking that reading accepts there, every sound unit's bit is set only if that unit signed this body in this
-/// slot by an earlier call on the list"
+/// No signature of a correct node is forged: where a node can read the bundle it is handed, each correct node in it has signed that
+/// payload in that slot before.
 fn unforged(system: &System, step: &Step, signed: &HashMap<(Slot, Payload), u64>) -> bool {
     step.accepts().is_none_or(|fields| {
         let signers = signed.get(&(fields.slot, fields.payload)).unwrap_or(&0);
@@ -104,7 +104,7 @@ impl History {
     }
 }
 
-/// What holds "whatever the faulty units send .. and whatever comes late, twice, out of order or never, at the list's end".
+/// The conclusions that ask nothing of the radio.
 pub fn broken_safety(system: &System, history: &History) -> Vec<Violation> {
     let found = [
         (Conclusion::Agreement, disagreement(history)),
@@ -122,7 +122,7 @@ pub fn broken_safety(system: &System, history: &History) -> Vec<Violation> {
     found.into_iter().filter_map(violation).collect()
 }
 
-/// "no two sound units have delivered different bodies for one slot,"
+/// Agreement: a slot in which two correct nodes delivered different payloads.
 fn disagreement(history: &History) -> Option<Slot> {
     let mut first = HashMap::new();
     let mut differs = |slot, payload| *first.entry(slot).or_insert(payload) != payload;
@@ -132,7 +132,7 @@ fn disagreement(history: &History) -> Option<Slot> {
         .find_map(|&(_, slot, payload)| differs(slot, payload).then_some(slot))
 }
 
-/// "none has delivered a slot twice,": "Delivering a slot twice is two such answers at one unit."
+/// A slot in which one node was answered delivered twice.
 fn delivered_twice(history: &History) -> Option<Slot> {
     let mut seen = HashSet::new();
     history
@@ -141,8 +141,7 @@ fn delivered_twice(history: &History) -> Option<Slot> {
         .find_map(|&(node, slot, _)| (!seen.insert((node, slot))).then_some(slot))
 }
 
-/// "a sound sender's slot has yielded only its announcement,": "a body delivered there is the one its sender announced there, and without
-/// an announcement there is none."
+/// Validity: a correct sender's slot in which something was delivered that the sender did not announce there.
 fn not_announced(system: &System, history: &History) -> Option<Slot> {
     let announced: HashSet<_> = history.announced.iter().copied().collect();
     let invented = |slot: Slot, payload| {
@@ -154,7 +153,7 @@ fn not_announced(system: &System, history: &History) -> Option<Slot> {
         .find_map(|&(_, slot, payload)| invented(slot, payload).then_some(slot))
 }
 
-/// "its announcement": there is one in a slot, at most.
+/// A slot in which its sender announced twice.
 fn announced_twice(history: &History) -> Option<Slot> {
     let mut seen = HashSet::new();
     history
@@ -163,7 +162,7 @@ fn announced_twice(history: &History) -> Option<Slot> {
         .find_map(|&(slot, _)| (!seen.insert(slot)).then_some(slot))
 }
 
-/// "and each sound unit has sent at most two bundles per slot."
+/// A slot in which one node sent three bundles.
 fn sent_thrice(history: &History) -> Option<Slot> {
     let mut times = HashMap::new();
     history.sent.iter().find_map(|(node, bundle)| {
@@ -174,8 +173,8 @@ fn sent_thrice(history: &History) -> Option<Slot> {
     })
 }
 
-/// "If every bundle sent by a sound unit has by then reached at least c - d sound units, itself counted if reached,": `receivers` is c - d
-/// in the demand itself.
+/// The premise of delivery: each bundle that was sent has reached so many correct nodes, its sender counted like any other. In the demand
+/// itself `receivers` is c - d.
 pub fn reached(history: &History, receivers: u32) -> bool {
     let nodes = |bundle| {
         history
@@ -189,8 +188,8 @@ pub fn reached(history: &History, receivers: u32) -> bool {
         .all(|(_, bundle)| nodes(bundle) >= receivers)
 }
 
-/// "each sound unit's announcement, and each body that any sound unit delivered, has been delivered by at least c - d sound units.":
-/// `receivers` is c - d in the demand itself.
+/// Delivery: something that was announced or delivered, and that fewer nodes than `receivers` have delivered; in the demand itself that
+/// is c - d.
 pub fn broken_delivery(history: &History, receivers: u32) -> Option<Violation> {
     let mut nodes: HashMap<_, u64> = HashMap::new();
     for &(node, slot, payload) in &history.delivered {

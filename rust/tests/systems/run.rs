@@ -70,12 +70,13 @@ impl Run {
         self.note(node, Call::Receive { bundle }, code, out);
     }
 
-    /// "each unit called opens the day first, and once only": "Opening a day leaves every byte zero in the buffer."
+    /// The first call at a node, and only that one, opens its day.
     fn open(&mut self, node: u8) {
         if self.opened & bit(node) == 0 {
             self.opened |= bit(node);
-            self.records[usize::from(node)].fill(0);
-            self.note(node, Call::Open, 0, Vec::new());
+            let config = self.config(node);
+            let code = host::open(&config, &mut self.records[usize::from(node)]);
+            self.note(node, Call::Open, code, Vec::new());
         }
     }
 

@@ -15,7 +15,7 @@ pub struct Tally {
     delivered: u64,
     /// deliveries of another payload than the one held
     replaced: u64,
-    /// by document 01's number; an opening's code is 0
+    /// by the refusal's number; at 0, the openings
     refused: [u64; 27],
     /// lists in which correct nodes signed different payloads in a slot, as only a faulty sender can make them
     equivocating: u64,
@@ -52,8 +52,8 @@ impl Tally {
     }
 
     fn add_refusal(&mut self, number: usize, step: &Step) {
-        let opening = matches!(step.call, Call::Open);
-        assert!(opening || REFUSALS.contains(&number), "{step}");
+        let opened = matches!(step.call, Call::Open) && number == 0;
+        assert!(opened || REFUSALS.contains(&number), "{step}");
         self.refused[number] += 1;
     }
 

@@ -1,7 +1,7 @@
 //! A list of calls as it went: what each call was given, what it answered, and the outgoing bytes it left.
 //!
-//! What document 01 says of a list's calls ("The list in demand 3") is read off each call here, by its own words, and nothing else of
-//! a run is known to the checks.
+//! What demand 3 asks of a call, whether it announces, delivers, sends, signs or reaches, is read off that call here. The checks know
+//! nothing else of a run.
 
 use mbrb::Config;
 use std::fmt;
@@ -32,7 +32,7 @@ pub fn word(bytes: &[u8]) -> u64 {
     bytes.iter().fold(0, shifted_in)
 }
 
-/// "A cascade of n units, f of them faulty": the nodes whose bits are in `faulty`.
+/// A system: its table but for the own numbers, and the faulty nodes as a word of bits.
 #[derive(Clone, Copy)]
 pub struct System {
     pub n: u8,
@@ -57,7 +57,7 @@ impl System {
         self.config(0).mask() & !self.faulty
     }
 
-    /// "c - d", where "c = n - f".
+    /// The number of correct nodes, less the d that may miss a sending.
     pub fn nearly_all(&self) -> u32 {
         self.correct().count_ones() - u32::from(self.d)
     }
@@ -117,7 +117,7 @@ pub struct Step {
 }
 
 impl Step {
-    /// "A unit announces a body when announcing it is answered announced; the slot is the day, its own number and the number answered."
+    /// What a node announces: by the answer announced, in its own slot of the number in the answer.
     pub fn announces(&self, day: u32) -> Option<(Slot, Payload)> {
         let Call::Broadcast { payload } = &self.call else {
             return None;
@@ -135,13 +135,13 @@ impl Step {
         Some((slot, payload))
     }
 
-    /// "It delivers a body in a slot when taking is answered delivered; slot and body are those of the bundle given."
+    /// What a node delivers: slot and payload of the bundle it was handed, by the answer delivered.
     pub fn delivers(&self) -> Option<(Slot, Payload)> {
         let fields = self.accepts().filter(|_| self.code == DELIVERED)?;
         Some((fields.slot, fields.payload))
     }
 
-    /// "It sends one bundle with each answer announced, signed or delivered."
+    /// The bundle that a node sends: by each of the answers announced, signed and delivered, and by no other.
     pub fn sends(&self) -> Option<Bundle> {
         if self.code != SIGNED && self.code != DELIVERED && self.code < ANNOUNCED {
             return None;
@@ -154,13 +154,13 @@ impl Step {
         )
     }
 
-    /// "It has signed a body in a slot once it has sent a bundle of that slot and body with its own bit set."
+    /// What a node signs: slot and payload of a bundle that it sends with its own bit in it.
     pub fn signs(&self) -> Option<(Slot, Payload)> {
         let fields = Fields::of(&self.sends()?);
         (fields.signers & bit(self.node) != 0).then_some((fields.slot, fields.payload))
     }
 
-    /// "A bundle reaches a unit by its 32 bytes, whoever brings them; a refused taking with 32 outgoing bytes counts too."
+    /// The bundle that reaches a node: its bytes count and not who brings them, and a refused call counts if it had 32 outgoing bytes.
     pub fn reached_by(&self) -> Option<Bundle> {
         let Call::Receive { bundle } = &self.call else {
             return None;
@@ -172,7 +172,7 @@ impl Step {
             .filter(|_| self.out.len() == 32)
     }
 
-    /// The fields of a "bundle given to taking that reading accepts there".
+    /// The fields of a bundle that the node could read, whatever it answered then.
     pub fn accepts(&self) -> Option<Fields> {
         let Call::Receive { bundle } = &self.call else {
             return None;
@@ -187,7 +187,7 @@ impl Step {
         Some(Fields::of(bundle))
     }
 
-    /// Document 01's case 3, another payload in place of the held one: only there is a bundle sent without the node's own bit.
+    /// Another payload comes in place of the held one: only there is a bundle sent without the node's own bit.
     pub fn replaces(&self) -> bool {
         self.code == DELIVERED && self.signs().is_none()
     }

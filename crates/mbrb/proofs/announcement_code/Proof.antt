@@ -1,10 +1,10 @@
 -- `announcement_code` meets its contract. Assumes nothing.
 use mathlib.Core.Path.{sym, ap}
 use Rattle.calls.specs.Broadcast.{announcementOf}
-use Rattle.host.specs.Code.{announcedCode}
+use Rattle.mbrb.specs.Code.{announcedCode}
 use borrow.Author.Needs.{needs}
-use Rattle.host.proofs.announcement_code.Statement.{statement}
-use Rattle.host.proofs.announcement_code.Tie as tie
+use Rattle.mbrb.proofs.announcement_code.Statement.{statement}
+use Rattle.mbrb.proofs.announcement_code.Tie as tie
 use Rattle.refusal.proofs.number.Reads as number-reads
 
 enum-known-announcement : tie.Need-enum-known-announcement

@@ -1,14 +1,27 @@
-// The C interface: broadcasting and receiving through numbers and byte slices, with one code for an answer.
+// The C interface: opening a day, broadcasting and receiving through numbers and byte slices, with one code for an answer.
 //
-// include/mbrb.h declares both functions for C and C++. A slice passes as a pointer and a length; what the host must see to there
-// is in that file.
+// include/mbrb.h declares the three functions for C and C++. A slice passes as a pointer and a length; what the host must see to
+// there is in that file.
 use calls::Announcement;
 use calls::Receipt;
 use config::Config;
+use refusal::Verdict;
 ghost use mathlib.Core.Path.{_≡_};
+ghost use Rattle.refusal.specs.Refusal.{verdictOf};
+ghost use Rattle.calls.specs.Open.{opened, openRecords};
 ghost use Rattle.calls.specs.Broadcast.{broadcast, broadcastRecords, broadcastOut, announcementOf};
 ghost use Rattle.calls.specs.Receive.{receive, receiveRecords, receiveOut, receiptOf};
-ghost use Rattle.host.specs.Code.{configOf, announcedCode, receivedCode, reportedCode};
+ghost use Rattle.mbrb.specs.Code.{configOf, openedCode, announcedCode, receivedCode, reportedCode};
+
+// Opens the day: makes every record empty. The code is 0, or the refusal's number.
+#[no_mangle]
+pub extern "C" fn mbrb_open(n: u8, t: u8, d: u8, own: u8, day: u32, records: &mut [u8]) -> u32
+    ensures { λ r. ⌜ r ≡ openedCode (opened (configOf n t d own day) (now (records .entry))) ⌝ }
+    ensures { λ _. ⌜ now (records .exit) ≡ openRecords (configOf n t d own day) (now (records .entry)) ⌝ }
+{
+    let config = config(n, t, d, own, day);
+    verdict_code(calls::open(config, records))
+}
 
 // Broadcasts a payload. The code is 200 plus the sequence number, or the refusal's number.
 #[no_mangle]
@@ -55,6 +68,15 @@ fn config(n: u8, t: u8, d: u8, own: u8, day: u32) -> Config
     ensures { λ r. ⌜ r ≡ configOf n t d own day ⌝ }
 {
     Config { n, t, d, own, day }
+}
+
+fn verdict_code(verdict: Verdict) -> u32
+    ensures { λ r. ⌜ r ≡ openedCode (verdictOf verdict) ⌝ }
+{
+    match verdict {
+        Verdict::Done => 0,
+        Verdict::Refused(reason) => refusal::number(reason),
+    }
 }
 
 fn announcement_code(announcement: Announcement) -> u32

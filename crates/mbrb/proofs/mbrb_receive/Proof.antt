@@ -3,10 +3,10 @@ use mathlib.Core.Path.{ap, _∙_}
 use borrow.Author.Needs.{needs}
 use Rattle.config.specs.declared.Config.{Config}
 use Rattle.calls.specs.Receive.{receive, receiveRecords, receiveOut}
-use Rattle.host.specs.Code.{receivedCode, reportedCode}
-use Rattle.host.proofs.Codes.{reported-received}
-use Rattle.host.proofs.mbrb_receive.Statement.{statement}
-use Rattle.host.proofs.mbrb_receive.Tie as tie
+use Rattle.mbrb.specs.Code.{receivedCode, reportedCode}
+use Rattle.mbrb.proofs.Codes.{reported-received}
+use Rattle.mbrb.proofs.mbrb_receive.Statement.{statement}
+use Rattle.mbrb.proofs.mbrb_receive.Tie as tie
 
 -- ---- the needs
 

@@ -3,9 +3,9 @@ use mathlib.Core.Path.{ap, _∙_}
 use borrow.Author.Needs.{needs}
 use Rattle.config.specs.declared.Config.{Config}
 use Rattle.calls.specs.Broadcast.{broadcast, broadcastRecords, broadcastOut}
-use Rattle.host.specs.Code.{announcedCode}
-use Rattle.host.proofs.mbrb_broadcast.Statement.{statement}
-use Rattle.host.proofs.mbrb_broadcast.Tie as tie
+use Rattle.mbrb.specs.Code.{announcedCode}
+use Rattle.mbrb.proofs.mbrb_broadcast.Statement.{statement}
+use Rattle.mbrb.proofs.mbrb_broadcast.Tie as tie
 
 -- ---- the needs
 
