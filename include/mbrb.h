@@ -104,8 +104,8 @@
  *
  *   - n, t, d and day are the same at all units, and own is different at each. At most t units are faulty; a unit that
  *     breaks section 4 is one of them.
- *   - The same bytes may be sent again, at any time and by anybody. Where a unit has taken a bundle before, it answers
- *     MBRB_KEPT or 22 and changes no byte.
+ *   - The same bytes may be sent again, at any time and by anybody. A unit that has taken a bundle, with a code of 100 or
+ *     more, answers the same bytes with MBRB_KEPT or 22 and changes no byte.
  *   - For delivery each bundle that a sound unit sends comes to be taken at all sound units but d, by its 32 bytes and
  *     whoever brings them; the sending unit counts like any other. Then all sound units but d deliver what a sound unit
  *     announces or delivers. A slot in which more is lost takes no delivery from another slot, and agreement never

@@ -1,6 +1,6 @@
-//! The proved calls and the proved run program beside another implementation of document 01.
+//! The proved calls and the proved run program beside another implementation of the same rules.
 //!
-//! [`host`] calls the functions that the static library exports, as a C host does; [`reference`] is written from document 01 alone. The
+//! [`host`] calls the functions that the static library exports, as a C host does; [`reference`] is written from the papers alone. The
 //! tests compare the two, and play whole systems through the exported functions. [`player`] is the run program over the reference, to be
 //! compared with the proved one on what [`runs`] writes.
 
@@ -34,7 +34,7 @@ pub fn program_under_test() -> PathBuf {
     path
 }
 
-/// What the nodes of a system share but for `own`: document 01's table. It may hold any values: a call refuses one that is not good.
+/// What the nodes of a system share but for `own`: the rules' table. It may hold any values: a call refuses one that is not good.
 #[derive(Clone, Copy, Debug, PartialEq, Eq)]
 pub struct Config {
     /// how many nodes the system has

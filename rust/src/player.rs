@@ -1,4 +1,4 @@
-//! The run program, written from document 01 alone: it plays a written run and prints what each step answered.
+//! The run program, written from the papers alone: it plays a written run and prints what each step answered.
 //!
 //! A row is read, played and printed before the next one is looked at, so the memory does not grow with the input.
 
@@ -125,7 +125,7 @@ enum Step {
     Receive([u8; 32]),
 }
 
-/// The node that a row is about, and the step; None if the row is not of document 01's shape.
+/// The node that a row is about, and the step; None if the row is not of a step's shape.
 fn parse_row(row: &[u8], config: &Config) -> Option<(u8, Step)> {
     if row.len() > LONGEST_ROW {
         return None;

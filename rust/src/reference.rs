@@ -1,10 +1,10 @@
-//! Opening, broadcast and receive, written from document 01 alone, to be compared with the proved functions.
+//! Opening, broadcast and receive, written from the papers alone, to be compared with the proved functions.
 //!
 //! Every check comes before the first store, so a refusal changes no byte.
 
 use crate::Config;
 
-/// Why a call changes nothing, by document 01's number.
+/// Why a call changes nothing, by its number in docs/RULES.md.
 #[derive(Clone, Copy, Debug, PartialEq, Eq)]
 #[repr(u32)]
 pub enum Refusal {
@@ -155,7 +155,7 @@ impl State {
     }
 }
 
-/// A well-formed record; document 01 calls it sound.
+/// A well-formed record; the rules call it sound.
 struct Record {
     state: State,
     signers: u64,
@@ -221,7 +221,7 @@ fn first_empty<'a>(
     }
 }
 
-/// Makes every record empty. Document 01: opening a day.
+/// Makes every record empty. The rules: opening a day.
 pub fn open(config: &Config, records: &mut [u8]) -> Result<(), Refusal> {
     require(config.good(), Refusal::ConfigNotGood)?;
     let complete = records.len() == config.records_length();
@@ -231,7 +231,7 @@ pub fn open(config: &Config, records: &mut [u8]) -> Result<(), Refusal> {
 }
 
 /// Signs the payload in our lowest empty slot, puts its bundle into `out` and gives the slot's
-/// number. Document 01: announcing.
+/// number. The rules: announcing.
 pub fn broadcast(
     config: &Config,
     payload: &[u8],
@@ -263,7 +263,7 @@ pub fn broadcast(
 }
 
 /// Takes the bundle into its slot's record. Signed or delivered, the bundle to send is in `out`;
-/// at kept `out` stays as it is. Document 01: taking.
+/// at kept `out` stays as it is. The rules: taking.
 pub fn receive(
     config: &Config,
     bundle: &[u8],

@@ -1,4 +1,4 @@
-//! Runs that could have happened, written down row by row in document 01's form. What a node sends is known, so that later rows can hand it
+//! Runs that could have happened, written down row by row in the form of a run file. What a node sends is known, so that later rows can hand it
 //! on.
 
 use crate::reference::{broadcast, receive, Receipt};

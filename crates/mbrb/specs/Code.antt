@@ -1,6 +1,5 @@
 -- The C interface: three functions over numbers and byte slices, each with one code as its result (R11.1). Which code each answer has (R11.2), which codes a host
--- can see (R11.3), and what a refusal's code means (R11.4). Where a definition is of announcing and taking, document 01 says it under "Calls"; the code of opening
--- is ours. The laws are proved in proofs/Codes.antt.
+-- can see (R11.3), and what a refusal's code means (R11.4). The laws are proved in proofs/Codes.antt.
 -- Assumes nothing.
 use mathlib.Core.Path.{_≡_}
 use mathlib.Core.Bool.{Bool, true, false, _||_}

@@ -112,7 +112,7 @@ fn run(program: &Path, input: &Path) -> io::Result<Cost> {
     if ended != process {
         return Err(io::Error::last_os_error());
     }
-    // Document 01 names no exit status for an input without table; a signal is a failure all the same.
+    // The rules name no exit status for an input without table; a signal is a failure all the same.
     let signal = status & 0x7f;
     assert!(signal == 0, "{}: signal {signal}", program.display());
     let [user, user_micros, system, system_micros] = usage.times.map(|part| part as f64);

@@ -1,5 +1,5 @@
 //! Good configs and records from a seed: well-formed ones in each state, and malformed ones by each clause of what makes a record
-//! well-formed. Document 01 calls them sound and unsound.
+//! well-formed. The rules call them sound and unsound.
 
 use mbrb::{random::Random, Config};
 

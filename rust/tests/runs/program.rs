@@ -24,7 +24,7 @@ impl Program {
         Program { path, folder }
     }
 
-    /// What the program prints. Document 01 names no exit status, so none is asked for; but the program ends by itself.
+    /// What the program prints. The rules name no exit status, so none is asked for; but the program ends by itself.
     pub fn run(&self, made: &Made) -> Vec<u8> {
         let stdin = match made.feed {
             Feed::File => Stdio::from(File::open(self.keep(made)).expect("just written")),
