@@ -4,8 +4,8 @@
  * announces a body of 16 bytes, takes the bundles that come in, and sends what the calls tell it to send. No two sound
  * units deliver different bodies in one slot (a day, a sender, a number from 0 to 15), whatever faulty units send and
  * whatever is lost, late, twice or out of order. This is proved of the three functions below, with every code and byte
- * that they give, for hosts that keep to this page. Sections 1 to 4 are for writing a host, 5 to 8 for a host that must
- * survive restarts and losses, 9 to 11 to look up.
+ * that they give, for hosts that keep to this page. Every host needs sections 1 to 8, in this order; 9 to 11 are to look
+ * up.
  *
  *
  * 1. Link it
@@ -14,6 +14,7 @@
  *
  *     cc host.c $(pkg-config --cflags --libs mbrb)
  *
+ * with PREFIX/lib/pkgconfig in PKG_CONFIG_PATH if pkg-config does not look there by itself.
  * Without installing, `rt staticlib mbrb` writes target/staticlib/libmbrb.a. It is x86-64 code for the System V calling
  * convention (section 11 has other processors). examples/host has a program to start from.
  *
@@ -26,9 +27,8 @@
  *   4. After MBRB_ANNOUNCED(number), MBRB_SIGNED and MBRB_DELIVERED save (section 4), then send `out` to all units,
  *      this one among them: a unit delivers its own announcement by taking it back with enough signatures. After any
  *      other code there is nothing to send.
- *   5. After MBRB_DELIVERED act on the body in `out`. It comes once for each slot.
- * A code from 1 to 99 is a refusal: no byte has changed, and the number says why. Most are harmless; section 8 is for
- * 21 and 23.
+ *   5. After MBRB_DELIVERED act on the body in `out`, before or after sending it. It comes once for each slot.
+ * A code from 1 to 99 is a refusal: no byte has changed, and the number says why. Section 8 says what to do.
  *
  *
  * 3. The memory that a call is lent
@@ -37,6 +37,8 @@
  *   is null, not even one whose length is 0. Any alignment will do, and what `out` holds before does not matter.
  * - The buffers of a call do not overlap.
  * - Nobody else writes to them during the call, nor reads `records` or `out`: no interrupt, no other core, no device.
+ * - Calls on different records may run at once, since nothing is kept between calls. On the same records they come one
+ *   after the other; a lock for two tasks spans the call, the saving, and the copying of `out`.
  * A call is safe with all bytes, lengths and numbers that keep to this.
  *
  *
@@ -46,14 +48,17 @@
  * the unit has signed: a unit that loses it can sign a second body in one slot, and counts as faulty from then on.
  *
  * The records do not hold their day, so no call notices records of yesterday. With them a unit refuses today's bundles
- * by 22, because yesterday's were delivered, or sends its own bit for what it did not sign today. So keep the day
- * beside the records, in one block that is saved together, and give each call the day of the block, never that of the
- * clock. The clock only decides when a new day is opened. Compare the two before calls:
+ * by 22, because yesterday's were delivered, or it sends a bundle that claims its signature for today where it has only
+ * signed yesterday. So keep the day beside the records, in one block that is saved together, and give each call the day
+ * of the block, never that of the clock. The clock only decides when a new day is opened. Compare the two before calls:
  *   - the clock's day is the block's: go on;
  *   - it is later: the block's day is over. Open the new day (mbrb_open), and save records and new day together before
  *     the first call of that day;
  *   - it is earlier: the clock is wrong or was set back. Stay with the block. A day that was opened once is never
  *     opened again.
+ * A clock that jumps ahead opens a day that the others are not at, and the unit is out until they are. So test the clock
+ * before opening: by a second source, or no more than a few days later than the block's. A day is any number that only
+ * grows and that all units share; it may stand for an hour.
  * n, t, d and own belong to the block like the day: they change with a new day only.
  *
  * What to save. A refusal changes no record. MBRB_KEPT, MBRB_SIGNED and MBRB_DELIVERED change the 32 bytes at
@@ -62,40 +67,41 @@
  *   - These 32 bytes are saved all or nothing: after a loss of power either the old or the new ones are there. A
  *     mixture can be a record that claims signatures which nobody gave.
  *   - After MBRB_SIGNED, MBRB_DELIVERED and MBRB_ANNOUNCED(number) the record is saved before `out` is sent, before the
- *     body is acted on, and before the next call. Save `out` too, with the record or after it, never before it: an
- *     `out` without its record is a signature that the unit does not know of. Bytes 8 to 31 of `out` are those of the
- *     record, so until the next call on that slot `out` can be made again from it.
+ *     body is acted on, and before the next call. In the same step save `out`, and that it is still to be sent and its
+ *     body to be acted on. Where that cannot be one step, the record comes first: an `out` without its record is a
+ *     signature that the unit does not know of.
  *   - MBRB_KEPT need not be saved before the next sending, nor at all. What is lost with it is signatures of others, as
  *     if that bundle had not come in.
  *
  *
  * 5. After a restart
  *
- *   1. Load the block: day, records, each `out` that is not noted as sent, each body that is not noted as acted on, and
- *      the signatures of section 6. If it cannot be loaded whole, make no call for the rest of the day, not even
- *      mbrb_open; a new day makes the unit sound again. The same goes for a new unit that joins a cascade in the middle
- *      of a day on which it may have signed before.
- *   2. Compare the block's day with the clock's, as in section 4. A later day is opened, and the steps below are for
- *      the same day.
- *   3. Do not open the day again.
- *   4. Send each `out` that is not noted as sent. Where it was sent already, sending the same bytes again does no harm.
- *   5. Act on each body that is not noted as acted on. The calls do not tell it again: they answer 22 from now on.
+ *   1. Load the block: day, records, each `out` that is still to be sent, each body that is still to be acted on, and the
+ *      signatures of section 6. If it cannot be loaded whole, make no call for the rest of the clock's day, not even
+ *      mbrb_open: the unit has forgotten what it signed. Save a block with that day and no records, so that the next
+ *      restart knows it too; a later day may be opened. The same goes for a unit that takes the place of another one,
+ *      with its number and key. That a unit is new is known from its installation, not from a missing block.
+ *   2. Act on each body that is still to be acted on. The calls do not tell it again: they answer 22 from now on.
+ *   3. Compare the block's day with the clock's, as in section 4. If the clock's is later, open the new day and go on at
+ *      6: what was still to be sent is of yesterday, and is refused by all who have opened the new day.
+ *   4. Else do not open the day again.
+ *   5. Send each `out` that is still to be sent. Where it was sent already, the same bytes again do no harm.
  *   6. Go on with announcing and taking.
  *
  *
  * 6. Signatures
  *
- * Bit u of a bundle's signers stands for a signature of unit u on day, sender, number and body. The library sees the
- * bits alone.
+ * Bit u of a bundle's signers stands for a signature of unit u on day, sender, number and body: on bytes 0 to 7 and 16 to
+ * 31 of the bundle, say, and on the same at all units. The library sees the bits alone.
  *   - Coming in: the key chip checks each signature of units 0 to n - 1, our own as well, before the call, and the host
  *     clears the bit of each that does not hold. Bits at n and above may stay: the call refuses them.
  *   - Going out: the key chip adds the signatures that the bits of `out` name. Ours is made if our bit is set, and for
  *     nothing else in that slot. The others came in with bundles of that slot and body, and the host has stored them.
- *   - Storing: after MBRB_SIGNED, MBRB_KEPT and MBRB_DELIVERED the host stores the signatures that came with the
- *     bundle, and saves them no later than the record. Only those of the body in the record are needed: after a refusal
- *     none, and where MBRB_DELIVERED brings another body than the one held, the bundle's own. While a slot is held
- *     these are fewer than MBRB_QUORUM(n, t) (one where n is 1), and up to n when it is delivered. Once the delivered
- *     `out` is sent they may go.
+ *   - Storing is the host's, in the key chip or beside it: after MBRB_SIGNED, MBRB_KEPT and MBRB_DELIVERED the
+ *     signatures that came with the bundle are stored, and saved no later than the record. After a refusal none are.
+ *     Only those of the body in the record are needed. Where MBRB_DELIVERED gives an `out` without our bit, the body is
+ *     another one than the record held: drop what is stored for the slot, and store what came. Once the delivered `out`
+ *     is sent for the last time they may go.
  *   - Room: with s bytes a signature at most n * s for a slot, and 16 * n slots, so 16 * n * n * s bytes: for s = 64
  *     that is 16 KiB with 4 units, 64 KiB with 8, and 4 MiB with 64.
  *
@@ -106,18 +112,32 @@
  *     breaks section 4 is one of them.
  *   - The same bytes may be sent again, at any time and by anybody. A unit that has taken a bundle, with a code of 100 or
  *     more, answers the same bytes with MBRB_KEPT or 22 and changes no byte.
- *   - For delivery each bundle that a sound unit sends comes to be taken at all sound units but d, by its 32 bytes and
- *     whoever brings them; the sending unit counts like any other. Then all sound units but d deliver what a sound unit
- *     announces or delivers. A slot in which more is lost takes no delivery from another slot, and agreement never
- *     depends on any of this.
+ *   - For delivery each bundle that a sound unit sends comes to be taken at all sound units but d; it does not matter
+ *     who brings its 32 bytes, and the sending unit counts like any other. Then all sound units but d deliver what a
+ *     sound unit announces or delivers. A slot in which more is lost takes no delivery from another slot, and agreement
+ *     never depends on any of this.
+ *   - The library acknowledges nothing and repeats nothing: against losses the host repeats each `out`. The delivered
+ *     `out` of any unit has a quorum in it and is enough for one that missed all else, so keep it, with its signatures,
+ *     for as long as it is to be repeated.
+ *   - A day's bundles are taken before the next day is opened, for then they are refused by 4. So announce nothing so
+ *     late in a day that clocks and radio leave no time for it.
  *
  *
- * 8. What to do at 21 and at 23
+ * 8. What to do at a refusal
  *
- * 21, MBRB_UNSOUND_RECORD: the record is not one that these calls leave. The day was not opened, the table is another
- * one, 32 bytes are half old and half new, or something else wrote there. Make no more calls on these records, and
- * neither repair nor open them. Where a copy holds exactly what was saved last, load it as after a restart. Otherwise
- * the unit is silent until it opens a new day; the others bear that, as one of their t.
+ *   1, 9, 10, 20   a mistake in the host: a wrong table or length
+ *   2, 3, 5 to 8   noise on the radio, or a faulty unit: drop the bundle
+ *   4              a bundle of another day: late, or a clock is wrong there or here
+ *   22             usual: others send on what they deliver
+ *   24             its sender has signed two bodies and is faulty: worth a note to the installer. The slot may still be
+ *                  delivered
+ *   25             no more announcements until the next day
+ *
+ * 21, MBRB_UNSOUND_RECORD: the record is not one that these calls leave. The day was not opened (which is not noticed
+ * where the bytes happen to be zero), the table is another one, 32 bytes are half old and half new, or something else
+ * wrote there. Make no more calls on these records, and neither repair nor open them. Where a copy holds exactly what
+ * was saved last, load it as after a restart. Otherwise the unit is silent until it opens a new day; the others bear
+ * that, as one of their t.
  *
  * 23, MBRB_OWN_SIGNATURE_UNKNOWN: the bundle has our bit, and our record does not hold its body. Let the key chip look
  * at our signature again.
@@ -137,10 +157,10 @@
  *
  * Argued and not proved: that a host which keeps to sections 3 to 7 is such a list. The lists know no restart. A call
  * whose change was lost before anything of it was sent or acted on is left out of the list: its answer was seen by
- * nobody, and by what is proved of records no other call answers differently, but for announcing after a lost
- * announcement, which is why that is saved before the next call. So with a lost MBRB_KEPT all of agreement stands, and
- * in delivery that bundle counts as one that has not reached this unit, until it comes again. Assumed: Rattle's logic
- * and its compiler's back end, and the host's memset.
+ * nobody, and what is proved of records says that no call on another slot answers otherwise for that. (Announcing looks
+ * at several slots, so an announcement is saved before the next call.) With a lost MBRB_KEPT all of agreement stands,
+ * and in delivery that bundle counts as one that has not reached this unit, until it comes again. Assumed: Rattle's
+ * logic and its compiler's back end, and the host's memset.
  *
  *
  * 10. What it costs
@@ -156,8 +176,6 @@
  *   - mbrb_receive uses 32 bytes below the stack pointer (the red zone of the calling convention), counted above. Where
  *     interrupts run on the stack of what they interrupt, they must leave the 128 bytes below it alone, as the
  *     convention asks.
- *   - Nothing is kept between calls, so calls on different records may run at once. Calls on the same records come one
- *     after the other.
  *
  *
  * 11. A controller that is no x86-64
@@ -165,8 +183,8 @@
  * The kit's compiler writes x86-64 code only, so this library does not link there. The proof is of the source and does
  * not depend on the processor: what is missing is a back end for it. Meanwhile a PC can run this library for simulation
  * and training, and be the measure for another implementation: give both the same calls, random ones and broken ones
- * too, and compare code, records and `out` byte by byte. rust/ does that with one written in Rust, on a million calls.
- * What such a comparison finds is found; it is no proof.
+ * too, and compare code, records and `out` byte by byte. rust/ does that with one written in Rust, on a million calls;
+ * that one is for tests and nothing to ship. What such a comparison finds is found; it is no proof.
  */
 #ifndef MBRB_H
 #define MBRB_H
@@ -216,7 +234,7 @@ extern "C" {
 /* Codes of mbrb_receive. */
 #define MBRB_KEPT 100      /* the signers are noted; nothing to send */
 #define MBRB_SIGNED 101    /* we sign this body: save, then send `out` */
-#define MBRB_DELIVERED 102 /* the body is delivered: save, then act on it and send `out` */
+#define MBRB_DELIVERED 102 /* the body is delivered: save, then send `out` and act on the body */
 
 /* Codes of mbrb_broadcast: 200 plus the number under which the body was announced: save, then send `out`. */
 #define MBRB_ANNOUNCED(number) (200u + (number))

@@ -1,7 +1,7 @@
 /* Four units of a cascade in one program, over a radio that is played from a list. Unit 3 is faulty: it says two things in one slot. Unit 2
  * loses power between a call and its sending, and restarts. In the end a new day begins.
  *
- * The first half is to copy: open_day, announce, take, finish, restart and show face the library. The second half stands in for a unit's
+ * The first half is to copy: open_day, announce, take, restart and show face the library. The second half stands in for a unit's
  * hardware, the radio, the key chip and the clock, and for the faulty unit. README.md says more; sections are those of include/mbrb.h.
  */
 #include "mbrb.h"
@@ -51,58 +51,67 @@ static void save(struct unit *unit)
 }
 
 /* Section 4: a day is opened where the clock's is later than the block's, and at a unit that is new. It is never opened again: a clock that was
- * set back opens nothing. */
+ * set back opens nothing. Firmware tests that the clock is not far ahead. */
 static void open_day(struct unit *unit, bool is_new)
 {
+    const uint32_t day = clock_day();
     uint32_t code;
 
-    if (!is_new && clock_day() <= unit->now.day)
+    if (!is_new && day <= unit->now.day)
         return;
-    unit->now.day = clock_day();
-    unit->now.to_send = unit->now.to_act_on = false;
-    code = mbrb_open(UNITS, FAULTS, LOSSES, unit->own, unit->now.day, unit->now.records, sizeof unit->now.records);
-    if (code == MBRB_OPENED)
+    code = mbrb_open(UNITS, FAULTS, LOSSES, unit->own, day, unit->now.records, sizeof unit->now.records);
+    if (code == MBRB_OPENED) {
+        unit->now.day = day;
+        unit->now.to_send = false; /* of yesterday */
         save(unit);
-    printf("unit %d opens day %" PRIu32 ": %" PRIu32 "\n", unit->own, unit->now.day, code);
+    }
+    printf("unit %d opens day %" PRIu32 ": %" PRIu32 "\n", unit->own, day, code);
 }
 
-/* Does what the last call gave to do, and notes that it is done. If power fails here, restart does it again: the same bytes may be sent
- * twice, and acting on a setpoint twice does no harm. Where it would, note it before acting. */
-static void finish(struct unit *unit)
+/* What the last call gave to do is done and noted as done. If power fails between the two, restart does it again: acting on a setpoint twice
+ * does no harm (where it would, note it before acting), and the same bytes may be sent twice. */
+static void act_if_due(struct unit *unit)
 {
-    struct block *now = &unit->now;
+    if (unit->now.to_act_on) {
+        act_on(unit->own, unit->now.out + MBRB_BODY_AT);
+        unit->now.to_act_on = false;
+        save(unit);
+    }
+}
 
-    if (now->to_act_on)
-        act_on(unit->own, now->out + MBRB_BODY_AT);
-    if (now->to_send)
-        send(unit->own, now->out);
-    if (now->to_send || now->to_act_on) {
-        now->to_send = now->to_act_on = false;
+static void send_if_due(struct unit *unit)
+{
+    if (unit->now.to_send) {
+        send(unit->own, unit->now.out);
+        unit->now.to_send = false;
         save(unit);
     }
 }
 
 /* After the codes that have something to send: first safe, then sent. */
-static void save_and_finish(struct unit *unit, bool delivered)
+static void save_and_send(struct unit *unit, bool delivered)
 {
     unit->now.to_send = true;
     unit->now.to_act_on = delivered;
     save(unit);
     if (power_fails(unit))
         return;
-    finish(unit);
+    send_if_due(unit);
+    act_if_due(unit);
 }
 
 static void announce(struct unit *unit, const uint8_t *body)
 {
-    const uint32_t code = mbrb_broadcast(UNITS, FAULTS, LOSSES, unit->own, unit->now.day, body, MBRB_BODY_SIZE,
-                                         unit->now.records, sizeof unit->now.records, unit->now.out, sizeof unit->now.out);
+    uint32_t code;
 
+    open_day(unit, false);
+    code = mbrb_broadcast(UNITS, FAULTS, LOSSES, unit->own, unit->now.day, body, MBRB_BODY_SIZE,
+                          unit->now.records, sizeof unit->now.records, unit->now.out, sizeof unit->now.out);
     if (MBRB_IS_ANNOUNCED(code)) {
         printf("unit %d announces ", unit->own);
         print_slot(unit->own, MBRB_NUMBER(code), body);
         printf(": %" PRIu32 " announced\n", code);
-        save_and_finish(unit, false);
+        save_and_send(unit, false);
     } else if (code == MBRB_NO_FREE_NUMBER) {
         printf("unit %d has used its sixteen numbers: %" PRIu32 "\n", unit->own, code);
     } else {
@@ -156,6 +165,7 @@ static void take(struct unit *unit, const uint8_t *arrived)
     uint8_t bundle[MBRB_BUNDLE_SIZE];
     uint32_t code;
 
+    open_day(unit, false);
     /* A copy: nobody may write to the bundle during the call, and a radio fills its own buffer when it likes. */
     memcpy(bundle, arrived, sizeof bundle);
     check_signatures(bundle);
@@ -166,24 +176,21 @@ static void take(struct unit *unit, const uint8_t *arrived)
     print_bundle(arrived, bundle);
     printf(": %" PRIu32 " %s\n", code, in_words(code));
     if (code == MBRB_SIGNED || code == MBRB_DELIVERED)
-        save_and_finish(unit, code == MBRB_DELIVERED);
+        save_and_send(unit, code == MBRB_DELIVERED);
 }
 
 /* Section 5, by its steps. Firmware that cannot load the block whole makes no call until the next day. */
 static void restart(struct unit *unit)
 {
     unit->now = unit->saved; /* 1. load the block */
-    printf("unit %d restarts on day %" PRIu32, unit->own, unit->now.day);
-    if (unit->now.to_send) {
-        printf(", sends ");
-        print_bundle(unit->now.out, unit->now.out);
-    }
-    printf("%s\n", unit->now.to_act_on ? ", acts on it" : "");
-    open_day(unit, false); /* 2. compare its day with the clock's; 3. the same day is not opened again */
-    finish(unit);          /* 4. send, and 5. act on what is not noted as done; 6. go on */
+    printf("unit %d restarts on day %" PRIu32 "%s%s\n", unit->own, unit->now.day, unit->now.to_act_on ? ", to act" : "",
+           unit->now.to_send ? ", to send" : "");
+    act_if_due(unit);      /* 2. act on what is still to be acted on, whatever the day */
+    open_day(unit, false); /* 3. compare its day with the clock's; 4. the same day is not opened again */
+    send_if_due(unit);     /* 5. send what is still to be sent; 6. go on */
 }
 
-/* What is delivered stays in the records until the day is over, for a display. Firmware acts in finish, and not on this. */
+/* What is delivered stays in the records until the day is over, for a display. Firmware acts in act_on, and not on this. */
 static void show(const struct unit *unit)
 {
     for (uint8_t sender = 0; sender < UNITS; sender++)
