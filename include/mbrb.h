@@ -3,9 +3,9 @@
  * A cascade has n units. Any t of them may be faulty, and each sending may miss d sound ones; n > 3t + 2d. A unit
  * announces a body of 16 bytes, takes the bundles that come in, and sends what the calls tell it to send. No two sound
  * units deliver different bodies in one slot (a day, a sender, a number from 0 to 15), whatever faulty units send and
- * whatever is lost, late, twice or out of order. This is proved of the three functions below, with every code and byte
- * that they give, for hosts that keep to this page. Every host needs sections 1 to 8, in this order; 9 to 11 are to look
- * up.
+ * whatever is lost, late, twice or out of order. This is proved of lists of calls of the three functions below, with
+ * every code and byte that they give; section 9 says what is argued of hosts that keep to this page. Every host needs
+ * sections 1 to 8, in this order; 9 to 11 are to look up.
  *
  *
  * 1. Link it
@@ -52,13 +52,14 @@
  * signed yesterday. So keep the day beside the records, in one block that is saved together, and give each call the day
  * of the block, never that of the clock. The clock only decides when a new day is opened. Compare the two before calls:
  *   - the clock's day is the block's: go on;
- *   - it is later: the block's day is over. Open the new day (mbrb_open), and save records and new day together before
- *     the first call of that day;
+ *   - it is later: the block's day is over. Open the new day (mbrb_open), see that the code is MBRB_OPENED, and save
+ *     records and new day before the first call of that day, all or nothing: after a loss of power the block is the old
+ *     day with its records, or the new day with zeros, and never one with the other's;
  *   - it is earlier: the clock is wrong or was set back. Stay with the block. A day that was opened once is never
  *     opened again.
- * A clock that jumps ahead opens a day that the others are not at, and the unit is out until they are. So test the clock
- * before opening: by a second source, or no more than a few days later than the block's. A day is any number that only
- * grows and that all units share; it may stand for an hour.
+ * A clock that jumps ahead opens a day that the others are not at, and the unit counts as faulty until they are. So test
+ * the clock before opening: by a second source, or no more than a few days later than the block's. A day is any number
+ * that only grows and that all units share; it may stand for an hour.
  * n, t, d and own belong to the block like the day: they change with a new day only.
  *
  * What to save. A refusal changes no record. MBRB_KEPT, MBRB_SIGNED and MBRB_DELIVERED change the 32 bytes at
@@ -67,26 +68,35 @@
  *   - These 32 bytes are saved all or nothing: after a loss of power either the old or the new ones are there. A
  *     mixture can be a record that claims signatures which nobody gave.
  *   - After MBRB_SIGNED, MBRB_DELIVERED and MBRB_ANNOUNCED(number) the record is saved before `out` is sent, before the
- *     body is acted on, and before the next call. In the same step save `out`, and that it is still to be sent and its
- *     body to be acted on. Where that cannot be one step, the record comes first: an `out` without its record is a
- *     signature that the unit does not know of.
+ *     body is acted on, and before the next call. `out`, and that it is still to be sent and its body to be acted on,
+ *     are saved in the same step, all or nothing: an `out` without its record is a signature that the unit does not know
+ *     of, and a record without its `out` may never be sent. A second copy, and then a mark that makes it the valid one,
+ *     is such a step; so is an entry of a journal.
  *   - MBRB_KEPT need not be saved before the next sending, nor at all. What is lost with it is signatures of others, as
- *     if that bundle had not come in.
+ *     if that bundle had not come in: for delivery it has not reached this unit. So it is with any call whose change is
+ *     lost before it is saved.
  *
  *
  * 5. After a restart
  *
- *   1. Load the block: day, records, each `out` that is still to be sent, each body that is still to be acted on, and the
- *      signatures of section 6. If it cannot be loaded whole, make no call for the rest of the clock's day, not even
- *      mbrb_open: the unit has forgotten what it signed. Save a block with that day and no records, so that the next
- *      restart knows it too; a later day may be opened. The same goes for a unit that takes the place of another one,
- *      with its number and key. That a unit is new is known from its installation, not from a missing block.
- *   2. Act on each body that is still to be acted on. The calls do not tell it again: they answer 22 from now on.
+ *   1. Load the block as it was saved last: day, records, each `out` that is still to be sent, each body that is still to
+ *      be acted on, and the signatures of section 6. If that cannot be done, the unit has forgotten what it signed: go to
+ *      "A lost block" below.
+ *   2. Act on each body that is still to be acted on. The calls do not tell it again: they answer 22 from now on. Where
+ *      power fails between acting and noting it, it is acted on twice; where that does harm, note it first.
  *   3. Compare the block's day with the clock's, as in section 4. If the clock's is later, open the new day and go on at
  *      6: what was still to be sent is of yesterday, and is refused by all who have opened the new day.
  *   4. Else do not open the day again.
  *   5. Send each `out` that is still to be sent. Where it was sent already, the same bytes again do no harm.
  *   6. Go on with announcing and taking.
+ *
+ * A lost block. Without it the unit cannot tell which days it has opened, and to open one a second time lets it sign a
+ * second body: two sound units may then deliver different ones. So keep the last opened day a second time, apart from
+ * the block, and save it before the block with the opening: a counter of the key chip's will do. After a loss make no
+ * call, not even mbrb_open, until the clock's day is later than that one. Where that is lost too, the unit is silent
+ * until somebody who knows the date has set its clock, and then until a day later than that date. The same goes for a
+ * unit that takes the place of another one, with its number and key. That a unit is new is known from its installation,
+ * not from a missing block.
  *
  *
  * 6. Signatures
@@ -94,14 +104,16 @@
  * Bit u of a bundle's signers stands for a signature of unit u on day, sender, number and body: on bytes 0 to 7 and 16 to
  * 31 of the bundle, say, and on the same at all units. The library sees the bits alone.
  *   - Coming in: the key chip checks each signature of units 0 to n - 1, our own as well, before the call, and the host
- *     clears the bit of each that does not hold. Bits at n and above may stay: the call refuses them.
+ *     clears the bit of each that does not hold. Bits at n and above may stay: the call refuses them. All key chips judge
+ *     alike; where one clears a bit that others do not, that bundle has not reached its unit.
  *   - Going out: the key chip adds the signatures that the bits of `out` name. Ours is made if our bit is set, and for
  *     nothing else in that slot. The others came in with bundles of that slot and body, and the host has stored them.
  *   - Storing is the host's, in the key chip or beside it: after MBRB_SIGNED, MBRB_KEPT and MBRB_DELIVERED the
- *     signatures that came with the bundle are stored, and saved no later than the record. After a refusal none are.
- *     Only those of the body in the record are needed. Where MBRB_DELIVERED gives an `out` without our bit, the body is
- *     another one than the record held: drop what is stored for the slot, and store what came. Once the delivered `out`
- *     is sent for the last time they may go.
+ *     signatures that came with the bundle are stored; after a refusal none are. Before a record is saved, every
+ *     signature whose bit it has is saved, also one that came with an MBRB_KEPT which was not. Only those of the body in
+ *     the record are needed. Where MBRB_DELIVERED gives an `out` without our bit, the body is another one than the
+ *     record held: drop what is stored for the slot, and store what came. Once the delivered `out` is sent for the last
+ *     time they may go.
  *   - Room: with s bytes a signature at most n * s for a slot, and 16 * n slots, so 16 * n * n * s bytes: for s = 64
  *     that is 16 KiB with 4 units, 64 KiB with 8, and 4 MiB with 64.
  *
@@ -110,8 +122,8 @@
  *
  *   - n, t, d and day are the same at all units, and own is different at each. At most t units are faulty; a unit that
  *     breaks section 4 is one of them.
- *   - The same bytes may be sent again, at any time and by anybody. A unit that has taken a bundle, with a code of 100 or
- *     more, answers the same bytes with MBRB_KEPT or 22 and changes no byte.
+ *   - The same bytes may be sent again, at any time and by anybody. To take them once more does no harm: it adds only
+ *     what a restart has lost.
  *   - For delivery each bundle that a sound unit sends comes to be taken at all sound units but d; it does not matter
  *     who brings its 32 bytes, and the sending unit counts like any other. Then all sound units but d deliver what a
  *     sound unit announces or delivers. A slot in which more is lost takes no delivery from another slot, and agreement
@@ -119,8 +131,8 @@
  *   - The library acknowledges nothing and repeats nothing: against losses the host repeats each `out`. The delivered
  *     `out` of any unit has a quorum in it and is enough for one that missed all else, so keep it, with its signatures,
  *     for as long as it is to be repeated.
- *   - A day's bundles are taken before the next day is opened, for then they are refused by 4. So announce nothing so
- *     late in a day that clocks and radio leave no time for it.
+ *   - A day's bundles are taken before the next day is opened: after that they are refused by 4, and have not reached the
+ *     unit. So announce nothing so late in a day that clocks and radio leave no time for it.
  *
  *
  * 8. What to do at a refusal
@@ -159,8 +171,8 @@
  * whose change was lost before anything of it was sent or acted on is left out of the list: its answer was seen by
  * nobody, and what is proved of records says that no call on another slot answers otherwise for that. (Announcing looks
  * at several slots, so an announcement is saved before the next call.) With a lost MBRB_KEPT all of agreement stands,
- * and in delivery that bundle counts as one that has not reached this unit, until it comes again. Assumed: Rattle's
- * logic and its compiler's back end, and the host's memset.
+ * and in delivery that bundle counts as one that has not reached this unit, until it comes again. Assumed: the Rattle
+ * kit, its logic with its checker, front end and back end, and the host's memset.
  *
  *
  * 10. What it costs

@@ -24,6 +24,7 @@ struct block {
     uint8_t out[MBRB_BUNDLE_SIZE];
     bool to_send;   /* `out` may not have been sent yet */
     bool to_act_on; /* its body was delivered, and may not have been acted on */
+    bool stopped;   /* section 8: no more calls on these records */
 };
 
 struct unit {
@@ -44,7 +45,8 @@ static void print_bundle(const uint8_t *arrived, const uint8_t *checked);
 
 /* ---- A sound unit: the parts to copy */
 
-/* All or nothing. Firmware writes a second copy and then a mark that makes it the valid one, or a journal of single records. */
+/* All or nothing. Firmware writes a second copy and then a mark that makes it the valid one, or a journal of single records. The last day that
+ * was opened it keeps a second time elsewhere, for when the block is lost (section 5). */
 static void save(struct unit *unit)
 {
     unit->saved = unit->now;
@@ -63,6 +65,7 @@ static void open_day(struct unit *unit, bool is_new)
     if (code == MBRB_OPENED) {
         unit->now.day = day;
         unit->now.to_send = false; /* of yesterday */
+        unit->now.stopped = false;
         save(unit);
     }
     printf("unit %d opens day %" PRIu32 ": %" PRIu32 "\n", unit->own, day, code);
@@ -100,11 +103,22 @@ static void save_and_send(struct unit *unit, bool delivered)
     act_if_due(unit);
 }
 
+/* Section 8: after 21, and after 23 on signatures that were checked, the records are not what this unit has signed. */
+static void stop_if_lost(struct unit *unit, uint32_t code)
+{
+    if (code == MBRB_UNSOUND_RECORD || code == MBRB_OWN_SIGNATURE_UNKNOWN) {
+        unit->now.stopped = true;
+        save(unit);
+    }
+}
+
 static void announce(struct unit *unit, const uint8_t *body)
 {
     uint32_t code;
 
     open_day(unit, false);
+    if (unit->now.stopped)
+        return;
     code = mbrb_broadcast(UNITS, FAULTS, LOSSES, unit->own, unit->now.day, body, MBRB_BODY_SIZE,
                           unit->now.records, sizeof unit->now.records, unit->now.out, sizeof unit->now.out);
     if (MBRB_IS_ANNOUNCED(code)) {
@@ -117,6 +131,7 @@ static void announce(struct unit *unit, const uint8_t *body)
     } else {
         /* A mistake in this unit: a wrong table or length, or records written over. */
         printf("unit %d cannot announce: %" PRIu32 "\n", unit->own, code);
+        stop_if_lost(unit, code);
     }
 }
 
@@ -151,7 +166,7 @@ static const char *in_words(uint32_t code)
         return "refused, not a bundle to use";
     case MBRB_OWN_SIGNATURE_UNKNOWN:
     case MBRB_UNSOUND_RECORD:
-        /* Section 8: no more calls on these records until the next day. */
+        /* Section 8: no more calls on these records until the next day; take sees to it. */
         return "refused, our records are lost";
     default:
         /* MBRB_BAD_TABLE, MBRB_OUT_LENGTH, MBRB_RECORDS_LENGTH: a mistake in this program. */
@@ -166,6 +181,8 @@ static void take(struct unit *unit, const uint8_t *arrived)
     uint32_t code;
 
     open_day(unit, false);
+    if (unit->now.stopped)
+        return;
     /* A copy: nobody may write to the bundle during the call, and a radio fills its own buffer when it likes. */
     memcpy(bundle, arrived, sizeof bundle);
     check_signatures(bundle);
@@ -177,9 +194,10 @@ static void take(struct unit *unit, const uint8_t *arrived)
     printf(": %" PRIu32 " %s\n", code, in_words(code));
     if (code == MBRB_SIGNED || code == MBRB_DELIVERED)
         save_and_send(unit, code == MBRB_DELIVERED);
+    stop_if_lost(unit, code);
 }
 
-/* Section 5, by its steps. Firmware that cannot load the block whole makes no call until the next day. */
+/* Section 5, by its steps. Firmware that cannot load the block does what stands there under "A lost block". */
 static void restart(struct unit *unit)
 {
     unit->now = unit->saved; /* 1. load the block */
