@@ -35,7 +35,7 @@ abbrev pub onBytes : Config → (bundle : List ℕ) → algorithm.State → algo
 onBytes config bundle σ =
     algorithm.onBundle (config .own) (quorum config) (headerIn bundle .sender) (payloadIn bundle) (headerIn bundle .signers) σ
 
--- R6.1: opening starts every slot as the algorithm starts: nothing saved, signed or delivered.
+-- R6.1, R13.1: opening starts every slot as the algorithm starts: nothing saved, signed or delivered.
 abbrev pub OpenStarts : Type 0
 OpenStarts =
     (config : Config) (records : List ℕ) (slot : Slot) → good config ≡ true → length records ≡ recordsSize config → inRange config slot ≡ true

@@ -126,7 +126,7 @@ pub fn broadcast(config: Config, payload: &[u8], records: &mut [u8], out: &mut [
     Announcement::Announced(seq)
 }
 
-// R8.1: receives a bundle that came in. What is answered signed or delivered is to be sent: `out` then has
+// RULES section 8: receives a bundle that came in. What is answered signed or delivered is to be sent: `out` then has
 // the bundle of the record (R8.7).
 pub fn receive(config: Config, bundle: &[u8], records: &mut [u8], out: &mut [u8]) -> Receipt
     ensures { λ r. ⌜ receiptOf r ≡ (receiveOf config (now (bundle .entry)) (now (records .entry)) (now (out .entry)) and-then λ result. done (reported result)) ⌝ }

@@ -7,7 +7,7 @@ use lib.Dec.{leb, ltb, eqb}
 use Rattle.config.specs.declared.Config.{Config}
 use Rattle.config.specs.declared.Slot.{Slot}
 
--- the configuration of a system, at node 0; and of the same system at another node
+-- the configuration of a system, at node 0; and of the same system at another node (R14.2, R15.2)
 unfoldable pub configFor : (n t d day : ℕ) → Config
 configFor n t d day = record { n = n; t = t; d = d; own = 0; day = day }
 

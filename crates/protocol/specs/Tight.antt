@@ -52,7 +52,7 @@ ReachableTight =
     × ((u : ℕ) → correct 4 (only 3) u ≡ true → ever 4 (delivers 4) list u ≡ false)
     × (Delivery 4 4 0 (only 3) 0 list → ⊥)
 
--- The two bounds leave room for a quorum only where n is more than 3t + 2d, which is why a good configuration asks it (R2.2).
+-- The two bounds leave room for a quorum only where n is more than 3t + 2d, which is why a good configuration asks it (R2.2, R2.8).
 abbrev pub BoundsAskResilience : Type 0
 BoundsAskResilience = (n t d q : ℕ) → n + t < q + q → q + t + d ≤ n → 3 * t + 2 * d < n
 

@@ -97,6 +97,6 @@ module _ (own q : ℕ) (signers : ℕ) (payload : List ℕ) (r : Record) where
       (record { answer = delivered; newRecord = Delivered joinedSigners payload })
       (record { answer = cond (isEmpty r) signed kept; newRecord = Held joinedSigners payload })
 
-  -- R8.1: what receiving the bundle comes to, where reading has accepted it and the record is well-formed.
+  -- R8.2 to R8.6, after 22, 23 and 24: what receiving the bundle comes to, where reading has accepted it and the record is well-formed.
   unfoldable pub update : Outcome Update
   update = unless updateReasons updateResult

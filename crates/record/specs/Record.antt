@@ -71,7 +71,7 @@ bytes r = bytesOf 8 (r .head) ++ (bytesOf 8 (r .signers) ++ payload.bytes (r .pa
 unfoldable pub loaded : List ℕ → List ℕ
 loaded xs = cond (eqb (length xs) recordSize) xs (replicate recordSize 0)
 
--- R8.1: receiving a bundle with these signers and this payload on the bytes of a record, well-formed or not
+-- 21, and then R8.2 to R8.6: receiving a bundle with these signers and this payload on the bytes of a record, well-formed or not
 unfoldable pub received : (config : Config) (sender signers : ℕ) (payload bytes : List ℕ) → Outcome Update
 received config sender signers payload bytes =
     checked ((21 if not (wellFormed config sender bytes)) ∷ []) and-then λ _. protocol.update (config .own) (quorum config) signers payload (decoded bytes)

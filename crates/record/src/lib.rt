@@ -147,7 +147,7 @@ impl Record {
         1 < self.head / HELD
     }
 
-    // R8.1: what a bundle with these signers and this payload does to the record of a slot of the sender.
+    // R8.2 to R8.6: what a bundle with these signers and this payload does to the record of a slot of the sender.
     pub fn receive(self, config: Config, sender: u8, signers: u64, payload: Payload) -> Received
         ensures { λ r. ⌜ receivedOf r ≡ encodedUpdate (received config sender signers (payloadBytes payload) (bytesIn self)) ⌝ }
     {

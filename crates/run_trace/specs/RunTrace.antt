@@ -1,4 +1,4 @@
--- The list of calls that a run makes: openings, then a call for each step row that is read. They are the calls of demand 3, the claim of RULES section 14.
+-- R15.12: the list of calls that a run makes, openings and then a call for each step row that is read. They are the calls of demand 3, the claim of RULES section 14.
 -- Assumes nothing.
 use mathlib.Core.Bool.{false}
 use mathlib.Core.List.{List, [], _∷_}

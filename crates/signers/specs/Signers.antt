@@ -30,10 +30,10 @@ size set = ones set
 unfoldable pub meets : ℕ → ℕ → Bool
 meets a b = not (eqb (bitAnd a b) 0)
 
--- bits 0 to n - 1; a word has 64 bits
+-- bits 0 to n - 1, the mask of R2.4; a word has 64 bits
 unfoldable pub below : ℕ → ℕ
 below n = cond (leb n 64) (2 ^ n - 1) (2 ^ 64 - 1)
 
--- no bit at n or above is set
+-- no bit at n or above is set, as R4.4 asks of a record and 7 of a bundle
 unfoldable pub within : ℕ → ℕ → Bool
 within set n = ltb set (2 ^ n)
