@@ -141,12 +141,17 @@ function legend(y) {
     text(524, y + 27, "a bundle with the signers of the box it leaves")
     line(474, y + 48, 510, y + 48, "delivered", 5)
     text(524, y + 53, "the unit has delivered")
+    arrow(20, y + 74, 56, y + 74, "kept")
+    arrow(68, y + 74, 104, y + 74, "delivered")
+    text(120, y + 79, "an arrow has the colour of the answer it gets")
+    box(474, y + 66, 36, 16, fill["refused"], colour["refused"], edge("refused"))
+    text(524, y + 79, "a refusing unit keeps what it held; its line has count 0")
 }
 
 END {
     if (!bad && !outcome) complain(rows, "after it the last rows are missing")
     if (bad) exit 1
-    begin(900, level(rows) + 130, "One announcement on its way through four units", describe())
+    begin(900, level(rows) + 156, "One announcement on its way through four units", describe())
     text(20, 56, "Units " n ", faults " t ", losses " d ": " q " signatures deliver. Here no unit is faulty." \
         " Time goes down, by the lines that the run program prints.")
     lifelines()

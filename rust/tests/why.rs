@@ -24,10 +24,11 @@ const SEED: u64 = 1;
 const FIRST: u64 = 1_300;
 
 /// Reasons that have to be given somewhere, each by a part of its message. tests/play has a file for each of the rarer ones.
-const REASONS: [&str; 30] = [
+const REASONS: [&str; 37] = [
     "the input is empty",
     "the text is UTF-16",
     "a byte order mark stands before",
+    "lines end in carriage returns alone",
     "it is empty, where \"units",
     "it is empty. Each line",
     "where the table is due",
@@ -53,6 +54,12 @@ const REASONS: [&str; 30] = [
     "digits where 16 are due",
     "digits where 32 are due",
     "hexadecimal digits are in small letters",
+    "it starts with #, where",
+    "it starts with #, and a run has no comments",
+    "are due: act, unit, sender, number, signers and body; a run has no comments",
+    "; a text is turned into digits first",
+    "has a comma, where one space is due",
+    "and this has a quotation mark",
     "a no-break space",
     "a long dash",
 ];
@@ -64,7 +71,7 @@ const NO_REASON: &str = "it is not as a row should be";
 #[derive(Debug, PartialEq, Eq)]
 enum Verdict {
     NoTable,
-    /// the places of the rows that are not read
+    /// the lines of the output that say so of a row
     Unread(BTreeSet<usize>),
 }
 
@@ -132,18 +139,23 @@ fn verdict(messages: &[String]) -> Verdict {
         return Verdict::NoTable;
     }
     let rows = messages.len().saturating_sub(1);
-    let places = messages[..rows].iter().map(|line| {
-        let words: Vec<_> = line.split([' ', ')']).take(4).collect();
-        let ["line", line, "(place", place] = words[..] else {
-            panic!("neither a row nor no table: {line}");
-        };
-        let [line, place] = [line, place].map(|word| word.parse::<usize>().expect("a number"));
-        assert_eq!(line, place + 3);
-        place
+    let lines = messages[..rows].iter().map(|message| {
+        let [line, printed] =
+            lines_of(message).unwrap_or_else(|| panic!("neither a row nor no table: {message}"));
+        assert_eq!(line, printed + 3);
+        printed
     });
-    let set: BTreeSet<_> = places.collect();
+    let set: BTreeSet<_> = lines.collect();
     assert_eq!(set.len(), rows, "a row twice: {messages:?}");
     Verdict::Unread(set)
+}
+
+/// The line of the file and that of the output, of a message on a row.
+fn lines_of(message: &str) -> Option<[usize; 2]> {
+    let (line, rest) = message.strip_prefix("line ")?.split_once(" (line ")?;
+    let (printed, reason) = rest.split_once(" of the output) is unread: ")?;
+    let number = |word: &str| word.parse().ok();
+    (!reason.is_empty()).then_some([number(line)?, number(printed)?])
 }
 
 fn printed_verdict(output: &[u8]) -> Verdict {
@@ -152,8 +164,8 @@ fn printed_verdict(output: &[u8]) -> Verdict {
         return Verdict::NoTable;
     }
     let unread = text.lines().filter_map(|line| {
-        let place = line.strip_suffix(" - - unread 0 0")?;
-        Some(place.parse().expect("a place"))
+        let printed = line.strip_suffix(" - - unread 0 0")?;
+        Some(printed.parse().expect("a number"))
     });
     Verdict::Unread(unread.collect())
 }
@@ -172,7 +184,7 @@ fn saved(random: &mut Random, bytes: Vec<u8>) -> Vec<u8> {
     let wide = |pair: fn(u8) -> [u8; 2]| bytes.iter().flat_map(move |&byte| pair(byte));
     let low_first = || wide(|byte| [byte, 0]);
     let high_first = || wide(|byte| [0, byte]);
-    match random.below(8) {
+    match random.below(15) {
         0 => [b"\xef\xbb\xbf", &bytes[..]].concat(),
         1 => low_first().collect(),
         2 => high_first().collect(),
@@ -180,8 +192,29 @@ fn saved(random: &mut Random, bytes: Vec<u8>) -> Vec<u8> {
         4 => b"\xfe\xff".iter().copied().chain(high_first()).collect(),
         5 => with_one_replaced(random, bytes, b' ', b"\xc2\xa0"),
         6 => with_one_replaced(random, bytes, b'-', b"\xe2\x80\x93"),
-        _ => with_one_replaced(random, bytes, b'\n', b"\r\n"),
+        7 => with_one_replaced(random, bytes, b'\n', b"\r\n"),
+        8 => with_one_replaced(random, bytes, b' ', b","),
+        9 => with_one_replaced(random, bytes, b' ', b" \""),
+        10 => with_one_replaced(random, bytes, b'\n', b"\n# "),
+        11 => with_one_replaced(random, bytes, b'\n', b" # what it shows\n"),
+        12 => [b"# what it shows\n", &bytes[..]].concat(),
+        13 => with_a_text(random, bytes),
+        _ => {
+            let returns = |byte| if byte == b'\n' { b'\r' } else { byte };
+            bytes.into_iter().map(returns).collect()
+        }
     }
+}
+
+/// The last field of some line is a text.
+fn with_a_text(random: &mut Random, bytes: Vec<u8>) -> Vec<u8> {
+    let mut lines: Vec<_> = bytes.split(|&byte| byte == b'\n').collect();
+    let at = random.below(lines.len());
+    let fields = lines[at].iter().rposition(|&byte| byte == b' ');
+    let kept = &lines[at][..fields.map_or(0, |space| space + 1)];
+    let text = [kept, [&b"lead"[..], b"lead is unit 2"][random.below(2)]].concat();
+    lines[at] = &text;
+    lines.join(&b'\n')
 }
 
 fn with_one_replaced(random: &mut Random, mut bytes: Vec<u8>, old: u8, new: &[u8]) -> Vec<u8> {
