@@ -38,29 +38,32 @@
  * - The buffers of a call do not overlap.
  * - Nobody else writes to them during the call, nor reads `records` or `out`: no interrupt, no other core, no device.
  * - Calls on different records may run at once, since nothing is kept between calls. On the same records they come one
- *   after the other; a lock for two tasks spans the call, the saving, and the copying of `out`.
+ *   after the other: a lock for two tasks spans the comparison of days (section 4), an opening, the call with the
+ *   block's day, the saving, and the copying of `out`.
  * A call is safe with all bytes, lengths and numbers that keep to this.
  *
  *
  * 4. The records, their day, and saving them
  *
  * A unit has one buffer of records a day. Only the calls write to it, and it is kept until the day is over. It is what
- * the unit has signed: a unit that loses it can sign a second body in one slot, and counts as faulty from then on.
+ * the unit has signed: a unit that loses it can sign a second body in one slot, and counts as faulty for that day.
  *
- * The records do not hold their day, so no call notices records of yesterday. With them a unit refuses today's bundles
- * by 22, because yesterday's were delivered, or it sends a bundle that claims its signature for today where it has only
- * signed yesterday. So keep the day beside the records, in one block that is saved together, and give each call the day
- * of the block, never that of the clock. The clock only decides when a new day is opened. Compare the two before calls:
+ * The records do not hold their day, so no call notices records of yesterday. With yesterday's records a unit refuses
+ * today's bundle by 22 if that slot was delivered yesterday; or it sends a bundle of today with its bit, although it
+ * has signed that body yesterday only. So keep the day beside the records, in one block that is saved together, and
+ * give each call the day of the block, never that of the clock. n, t, d and own go with them: they change with a new day
+ * only. The clock decides when a new day is opened. Compare the two before calls:
  *   - the clock's day is the block's: go on;
  *   - it is later: the block's day is over. Open the new day (mbrb_open), see that the code is MBRB_OPENED, and save
  *     records and new day before the first call of that day, all or nothing: after a loss of power the block is the old
- *     day with its records, or the new day with zeros, and never one with the other's;
+ *     day with its records or the new day with zeros, never the old day with zeros nor the new day with old records.
+ *     Bodies that are still to be acted on stay in the block; what is still to be sent may go;
  *   - it is earlier: the clock is wrong or was set back. Stay with the block. A day that was opened once is never
  *     opened again.
- * A clock that jumps ahead opens a day that the others are not at, and the unit counts as faulty until they are. So test
- * the clock before opening: by a second source, or no more than a few days later than the block's. A day is any number
- * that only grows and that all units share; it may stand for an hour.
- * n, t, d and own belong to the block like the day: they change with a new day only.
+ * A clock that jumps ahead opens a day that the others have not opened, and the unit counts as faulty until they have.
+ * So test the clock before opening: by a second source, or that it is no more than a few days later than the block's; a
+ * unit that was off for longer then needs somebody who confirms the date. A day is any number that only grows and that
+ * all units share; it may stand for an hour.
  *
  * What to save. A refusal changes no record. MBRB_KEPT, MBRB_SIGNED and MBRB_DELIVERED change the 32 bytes at
  * MBRB_RECORD_AT(sender, number), by the sender and number of the bundle taken. MBRB_ANNOUNCED(number) changes those at
@@ -69,19 +72,21 @@
  *     mixture can be a record that claims signatures which nobody gave.
  *   - After MBRB_SIGNED, MBRB_DELIVERED and MBRB_ANNOUNCED(number) the record is saved before `out` is sent, before the
  *     body is acted on, and before the next call. `out`, and that it is still to be sent and its body to be acted on,
- *     are saved in the same step, all or nothing: an `out` without its record is a signature that the unit does not know
- *     of, and a record without its `out` may never be sent. A second copy, and then a mark that makes it the valid one,
- *     is such a step; so is an entry of a journal.
+ *     are saved in the same step, all or nothing, and no later call's take their place before that is done. If `out` is
+ *     saved and its record is not, the unit sends a signature that it will not remember; if the record is saved and
+ *     `out` is not, it may never be sent. A second copy, and then a mark that makes it the valid one, is such a step; so
+ *     is an entry of a journal.
  *   - MBRB_KEPT need not be saved before the next sending, nor at all. What is lost with it is signatures of others, as
- *     if that bundle had not come in: for delivery it has not reached this unit. So it is with any call whose change is
- *     lost before it is saved.
+ *     if that bundle had not come in: for delivery it has not reached this unit. The same holds for every call whose
+ *     change is lost before it is saved.
+ *   - Where saving fails, send nothing, and go on as after a restart.
  *
  *
  * 5. After a restart
  *
  *   1. Load the block as it was saved last: day, records, each `out` that is still to be sent, each body that is still to
- *      be acted on, and the signatures of section 6. If that cannot be done, the unit has forgotten what it signed: go to
- *      "A lost block" below.
+ *      be acted on, and the signatures of section 6. An older copy is not it. If that cannot be done, the unit has
+ *      forgotten what it signed: go to "A lost block" below.
  *   2. Act on each body that is still to be acted on. The calls do not tell it again: they answer 22 from now on. Where
  *      power fails between acting and noting it, it is acted on twice; where that does harm, note it first.
  *   3. Compare the block's day with the clock's, as in section 4. If the clock's is later, open the new day and go on at
@@ -92,28 +97,33 @@
  *
  * A lost block. Without it the unit cannot tell which days it has opened, and to open one a second time lets it sign a
  * second body: two sound units may then deliver different ones. So keep the last opened day a second time, apart from
- * the block, and save it before the block with the opening: a counter of the key chip's will do. After a loss make no
- * call, not even mbrb_open, until the clock's day is later than that one. Where that is lost too, the unit is silent
- * until somebody who knows the date has set its clock, and then until a day later than that date. The same goes for a
- * unit that takes the place of another one, with its number and key. That a unit is new is known from its installation,
- * not from a missing block.
+ * the block: a counter of the key chip's will do. At each opening save it first, then the block. After a loss make no
+ * call, not even mbrb_open, until the clock's day is later than that one. Where it is lost too, somebody who knows the
+ * date sets the clock, and the unit is silent until a day later than that date and than every day that its clock may
+ * have shown before, right or wrong; where nobody can say that, it gets a new key. The same goes for a unit that takes
+ * the place of another one, with its number and key. That a unit is new is known from its installation, not from a
+ * missing block.
  *
  *
  * 6. Signatures
  *
  * Bit u of a bundle's signers stands for a signature of unit u on day, sender, number and body: on bytes 0 to 7 and 16 to
  * 31 of the bundle, say, and on the same at all units. The library sees the bits alone.
- *   - Coming in: the key chip checks each signature of units 0 to n - 1, our own as well, before the call, and the host
- *     clears the bit of each that does not hold. Bits at n and above may stay: the call refuses them. All key chips judge
- *     alike; where one clears a bit that others do not, that bundle has not reached its unit.
- *   - Going out: the key chip adds the signatures that the bits of `out` name. Ours is made if our bit is set, and for
- *     nothing else in that slot. The others came in with bundles of that slot and body, and the host has stored them.
- *   - Storing is the host's, in the key chip or beside it: after MBRB_SIGNED, MBRB_KEPT and MBRB_DELIVERED the
- *     signatures that came with the bundle are stored; after a refusal none are. Before a record is saved, every
- *     signature whose bit it has is saved, also one that came with an MBRB_KEPT which was not. Only those of the body in
- *     the record are needed. Where MBRB_DELIVERED gives an `out` without our bit, the body is another one than the
- *     record held: drop what is stored for the slot, and store what came. Once the delivered `out` is sent for the last
- *     time they may go.
+ *   - Coming in: bundle and signatures are copied, so that the radio cannot change them. The key chip checks each
+ *     signature of units 0 to n - 1, our own as well, before the call, and the host clears the bit of each that does
+ *     not hold. Bits at n and above may stay: the call refuses them. All key chips judge alike; where one clears a bit
+ *     that others do not, that bundle has not reached its unit.
+ *   - Going out: the key chip adds the signatures that the bits of `out` name. Ours is made where our bit is set, after
+ *     the record is saved, when `out` is sent, and for no other body in that slot. The others came in with bundles of
+ *     that slot and body, and are stored.
+ *   - Storing is the host's, in the key chip or beside it. After MBRB_SIGNED, MBRB_KEPT and MBRB_DELIVERED store the
+ *     signatures whose bits were left in the bundle; one whose bit was cleared is thrown away, and takes the place of
+ *     none. After a refusal store none. Before a record is saved, every other unit's signature whose bit it has is
+ *     saved, also those that came with an MBRB_KEPT that was itself not saved.
+ *   - Store a slot's body with its signatures. Where another body comes to be stored, begin the slot anew: it does so
+ *     where MBRB_DELIVERED gives an `out` without our bit, and may do so after a restart. An `out` of the first body
+ *     need not be sent any more. Signatures may be deleted once the delivered `out` is sent for the last time, and
+ *     yesterday's after the opening is saved.
  *   - Room: with s bytes a signature at most n * s for a slot, and 16 * n slots, so 16 * n * n * s bytes: for s = 64
  *     that is 16 KiB with 4 units, 64 KiB with 8, and 4 MiB with 64.
  *
@@ -121,25 +131,26 @@
  * 7. The cascade and its radio
  *
  *   - n, t, d and day are the same at all units, and own is different at each. At most t units are faulty; a unit that
- *     breaks section 4 is one of them.
- *   - The same bytes may be sent again, at any time and by anybody. To take them once more does no harm: it adds only
- *     what a restart has lost.
- *   - For delivery each bundle that a sound unit sends comes to be taken at all sound units but d; it does not matter
- *     who brings its 32 bytes, and the sending unit counts like any other. Then all sound units but d deliver what a
- *     sound unit announces or delivers. A slot in which more is lost takes no delivery from another slot, and agreement
- *     never depends on any of this.
+ *     breaks sections 3 to 6 is one of them.
+ *   - The same bytes may be sent again, at any time and by anybody. To take them once more changes nothing, unless a
+ *     restart has lost what they had changed.
+ *   - For delivery each bundle that a sound unit sends comes to be taken at all sound units but d. It does not matter
+ *     who brings its 32 bytes. The sending unit takes it too, or is one of the d. Then all sound units but d deliver
+ *     what a sound unit announces or delivers. A slot in which more is lost does not spoil delivery in another one, and
+ *     agreement never depends on any of this.
  *   - The library acknowledges nothing and repeats nothing: against losses the host repeats each `out`. The delivered
  *     `out` of any unit has a quorum in it and is enough for one that missed all else, so keep it, with its signatures,
  *     for as long as it is to be repeated.
- *   - A day's bundles are taken before the next day is opened: after that they are refused by 4, and have not reached the
- *     unit. So announce nothing so late in a day that clocks and radio leave no time for it.
+ *   - A bundle of another day is refused by 4, and has not reached the unit. So announce nothing so late in a day, nor
+ *     so soon after opening it, that clocks and radio leave other units at another one; or repeat `out` until all have
+ *     opened. A bundle of a later day may be set aside and taken after the opening.
  *
  *
  * 8. What to do at a refusal
  *
  *   1, 9, 10, 20   a mistake in the host: a wrong table or length
  *   2, 3, 5 to 8   noise on the radio, or a faulty unit: drop the bundle
- *   4              a bundle of another day: late, or a clock is wrong there or here
+ *   4              a bundle of another day: early or late, or a clock is wrong there or here
  *   22             usual: others send on what they deliver
  *   24             its sender has signed two bodies and is faulty: worth a note to the installer. The slot may still be
  *                  delivered
@@ -147,9 +158,10 @@
  *
  * 21, MBRB_UNSOUND_RECORD: the record is not one that these calls leave. The day was not opened (which is not noticed
  * where the bytes happen to be zero), the table is another one, 32 bytes are half old and half new, or something else
- * wrote there. Make no more calls on these records, and neither repair nor open them. Where a copy holds exactly what
- * was saved last, load it as after a restart. Otherwise the unit is silent until it opens a new day; the others bear
- * that, as one of their t.
+ * wrote there. Make no more calls on these records, do not repair them, and do not open this day again. Where a copy
+ * holds exactly what was saved last, load it as after a restart; if 21 or 23 comes again after that, do not load again.
+ * Otherwise the unit is silent until it opens a day that is later than the last opened day kept apart (section 5), since
+ * the day in the block may be damaged too; the others bear that, as one of their t.
  *
  * 23, MBRB_OWN_SIGNATURE_UNKNOWN: the bundle has our bit, and our record does not hold its body. Let the key chip look
  * at our signature again.
@@ -169,8 +181,8 @@
  *
  * Argued and not proved: that a host which keeps to sections 3 to 7 is such a list. The lists know no restart. A call
  * whose change was lost before anything of it was sent or acted on is left out of the list: its answer was seen by
- * nobody, and what is proved of records says that no call on another slot answers otherwise for that. (Announcing looks
- * at several slots, so an announcement is saved before the next call.) With a lost MBRB_KEPT all of agreement stands,
+ * nobody, and what is proved of records says that calls on other slots give the same answers without it. (Announcing
+ * looks at several slots, so an announcement is saved before the next call.) With a lost MBRB_KEPT all of agreement stands,
  * and in delivery that bundle counts as one that has not reached this unit, until it comes again. Assumed: the Rattle
  * kit, its logic with its checker, front end and back end, and the host's memset.
  *

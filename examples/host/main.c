@@ -16,8 +16,9 @@
 #define FAULTS 1
 #define LOSSES 0
 
-/* What a unit saves, as one block: the records, their day beside them, and what the last call gave to do. The signatures of section 6 belong
- * here too; the simulated key chip below keeps them. */
+/* What a unit saves, as one block: the records, their day beside them, and what the last call gave to do. There is one `out`: the next call comes
+ * when send_if_due and act_if_due are back, and a host that does not wait for its radio keeps a list of them. The signatures of section 6 belong
+ * here too, and the table if it can change; the simulated key chip below keeps the signatures. */
 struct block {
     uint32_t day;
     uint8_t records[MBRB_RECORDS_SIZE(UNITS)];
@@ -107,6 +108,7 @@ static void save_and_send(struct unit *unit, bool delivered)
 static void stop_if_lost(struct unit *unit, uint32_t code)
 {
     if (code == MBRB_UNSOUND_RECORD || code == MBRB_OWN_SIGNATURE_UNKNOWN) {
+        unit->now = unit->saved; /* what is damaged is not saved */
         unit->now.stopped = true;
         save(unit);
     }
@@ -183,7 +185,7 @@ static void take(struct unit *unit, const uint8_t *arrived)
     open_day(unit, false);
     if (unit->now.stopped)
         return;
-    /* A copy: nobody may write to the bundle during the call, and a radio fills its own buffer when it likes. */
+    /* A copy, of the signatures beside it too: nobody may write to the bundle during the call, and a radio fills its own buffer when it likes. */
     memcpy(bundle, arrived, sizeof bundle);
     check_signatures(bundle);
     code = mbrb_receive(UNITS, FAULTS, LOSSES, unit->own, unit->now.day, bundle, sizeof bundle,
@@ -372,7 +374,7 @@ int main(void)
 
     for (uint8_t u = 0; u < LIAR; u++) {
         units[u].own = u;
-        open_day(&units[u], true);
+        open_day(&units[u], true); /* new, at its installation; any other start is restart() */
     }
 
     announce(&units[0], BODY("setpoint 21.50 C"));              /* bundle 0 */
