@@ -182,9 +182,10 @@
  * Argued and not proved: that a host which keeps to sections 3 to 7 is such a list. The lists know no restart. A call
  * whose change was lost before anything of it was sent or acted on is left out of the list: its answer was seen by
  * nobody, and what is proved of records says that calls on other slots give the same answers without it. (Announcing
- * looks at several slots, so an announcement is saved before the next call.) With a lost MBRB_KEPT all of agreement stands,
- * and in delivery that bundle counts as one that has not reached this unit, until it comes again. Assumed: the Rattle
- * kit, its logic with its checker, front end and back end, and the host's memset.
+ * looks at several slots, so an announcement is saved before the next call.) With a lost MBRB_KEPT all of agreement
+ * stands, and in delivery that bundle counts as one that has not reached this unit, until it comes again.
+ * tests/power_cuts tries it on examples/host. Assumed: the Rattle kit, its logic with its checker, front end and back
+ * end, and the host's memset.
  *
  *
  * 10. What it costs

@@ -66,6 +66,8 @@ static void open_day(struct unit *unit, bool is_new)
     if (code == MBRB_OPENED) {
         unit->now.day = day;
         unit->now.to_send = false; /* of yesterday */
+        if (is_new)
+            unit->now.to_act_on = false;
         unit->now.stopped = false;
         save(unit);
     }
