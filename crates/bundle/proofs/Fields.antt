@@ -11,12 +11,12 @@ use lib.ListN.{length, getD, take, drop, length-drop, take-append-drop}
 use lib.Seq.{take-all, take-add, drop-drop}
 use Rattle.octets.specs.Octets.{Bytes, number, bytesOf, part, wordOf, words, filled}
 use Rattle.octets.proofs.Numbers.{bytesOf-split, bytesOf-low, bytesOf-number, length-part, number-high, number-low}
-use Rattle.octets.proofs.WordRead.{elements-part, word-number}
+use Rattle.octets.proofs.WordRead.{elements-part, word-number, word-bytes}
 use Rattle.payload.specs.declared.Payload.{Payload}
 use Rattle.payload.specs.Payload.{payloadSize, bytes, loaded}
 use Rattle.config.specs.declared.Slot.{Slot}
 use Rattle.bundle.specs.declared.Header.{Header}
-use Rattle.bundle.specs.Bundle.{bundleSize, payloadStart, bundleOf, slotIn, headerIn, payloadIn, payloadLoaded, encoded, slotOf}
+use Rattle.bundle.specs.Bundle.{bundleSize, payloadStart, bundleOf, slotIn, headerIn, payloadIn, payloadLoaded, encoded, resigned, slotOf}
 
 -- the first word of a bundle, by its slot
 abbrev pub slotWord : Slot → ℕ
@@ -107,3 +107,18 @@ payload-loaded payload l = rw (eq-eqb (length payload) payloadSize l)
 pub loaded-payload : (bundle : List ℕ) → length bundle ≡ bundleSize → payloadLoaded bundle ≡ payloadIn bundle
 unfolding payloadLoaded
 loaded-payload bundle l = rw (eq-eqb (length bundle) bundleSize l)
+
+-- four words filled in are a bundle with other signers, where the first is the bundle's and the last two are its payload
+pub filled-resigned : (bundle out result : List ℕ) (signers first : ℕ) (payload : Payload) → length bundle ≡ bundleSize → Bytes bundle
+    → first ≡ wordOf (part 0 8 bundle) → bytes payload ≡ payloadLoaded bundle → result ≡ filled out first signers (payload .high) (payload .low)
+    → result ≡ resigned bundle signers out
+unfolding filled words resigned bytes
+filled-resigned bundle out result signers first payload l known is held e =
+    e
+    ∙ ap₂ (λ (a b : List ℕ). cond (eqb (length out) bundleSize) (a ++ (bytesOf 8 signers ++ b)) out)
+    (ap (bytesOf 8) is ∙ word-bytes bundle 0 (omega arith) known) (held ∙ loaded-payload bundle l)
+    ∙ rw (eq-eqb (length bundle) bundleSize l)
+
+pub resigned-none : (bundle out : List ℕ) (signers : ℕ) → (length bundle ≡ bundleSize → ⊥) → out ≡ resigned bundle signers out
+unfolding resigned
+resigned-none bundle out signers l = rw (ne-eqb (length bundle) bundleSize l)

@@ -1,15 +1,16 @@
 -- R10.3 and R10.4: the two statements of specs/RoundTrip.antt, proved.
 -- Assumes nothing.
 use mathlib.Core.Path.{_≡_, refl, sym, ap, ap₂, _∙_, subst}
-use mathlib.Core.Bool.{true}
-use mathlib.Core.List.{List, _∷_, _++_}
+use mathlib.Core.Bool.{true, cond}
+use mathlib.Core.List.{List, [], _∷_, _++_, append-assoc}
 use Prim.Native.Nat.{ℕ, _<_, _^_}
 use native.Mathlib.Nat.{lt-of-lt-of-le}
 use native.Mathlib.Omega.{arith}
 use lib.ListN.{length, getD, drop, length-drop, take-append-drop}
 use lib.Pow.{pow-mono}
-use lib.Seq.{drop-drop, take-all}
-use borrow.Author.Tests.{not-false}
+use lib.Dec.{eqb}
+use lib.Seq.{drop-drop, take-all, take-add}
+use borrow.Author.Tests.{eq-eqb, not-false}
 use Rattle.octets.specs.Octets.{Bytes, number, bytesOf, part}
 use Rattle.octets.proofs.Numbers.{number-bytesOf, length-part, number-part}
 use Rattle.octets.proofs.WordRead.{elements-part}
@@ -21,9 +22,9 @@ use Rattle.config.specs.declared.Config.{Config}
 use Rattle.config.specs.Config.{good, slotOfDay}
 use Rattle.config.proofs.Laws.{good-says}
 use Rattle.bundle.specs.declared.Header.{Header}
-use Rattle.bundle.specs.Bundle.{bundleSize, payloadStart, bundleOf, slotIn, headerIn, payloadIn, headerReasons, read, payloadPart, headerOfDay}
+use Rattle.bundle.specs.Bundle.{bundleSize, payloadStart, bundleOf, slotIn, headerIn, payloadIn, headerReasons, read, payloadPart, headerOf, headerOfDay, resigned}
 use Rattle.bundle.specs.RoundTrip.{WrittenReadsBack, AcceptedWritesBack}
-use Rattle.bundle.proofs.Accepted.{accepted-readable, readable-accepted, accepted-payload, written-writable, writable-written}
+use Rattle.bundle.proofs.Accepted.{Readable, accepted-readable, readable-accepted, accepted-payload, written-writable, writable-written}
 
 -- the fields of a bundle that was put together are those that it was put together from
 module _ (h : Header) (payload : List ℕ) where
@@ -115,3 +116,17 @@ accepted-writes-back reader writer h bundle out peers bytes l e =
       room = l;
     })
     ∙ ap done (rw (again, rest, ← same) (together bundle bytes long (ok .sixth) (ok .seventh)))
+
+-- an accepted bundle with other signers is the bundle of its slot with these signers and its payload
+pub resigned-accepted : (config : Config) (bundle out : List ℕ) (h : Header) (signers : ℕ) → Bytes bundle → read config bundle ≡ done h → length out ≡ bundleSize
+    → resigned bundle signers out ≡ bundleOf (headerOf (slotIn bundle) signers) (payloadIn bundle)
+unfolding resigned bundleOf slotIn
+resigned-accepted config xs out h signers bytes e room =
+    let ok : Readable config xs = accepted-readable config xs h e .0 in
+    let long : length xs ≡ bundleSize = ok .long in
+    let four : part 0 4 xs ≡ bytesOf 4 (number (part 0 4 xs)) = sym (number-part xs 0 4 bytes (omega arith)) in
+    let middle : part 4 4 xs ≡ getD xs 4 0 ∷ getD xs 5 0 ∷ 0 ∷ 0 ∷ [] =
+    sym (elements-part xs 4 4 (omega arith)) ∙ ap₂ (λ (a b : ℕ). getD xs 4 0 ∷ getD xs 5 0 ∷ a ∷ b ∷ []) (ok .sixth) (ok .seventh) in
+    let first : part 0 8 xs ≡ bytesOf 4 (number (part 0 4 xs)) ++ (getD xs 4 0 ∷ getD xs 5 0 ∷ 0 ∷ 0 ∷ []) = take-add 4 4 xs ∙ ap₂ _++_ four middle in
+    rw (eq-eqb (length xs) bundleSize long, eq-eqb (length out) bundleSize room)
+    (ap (λ (r : List ℕ). r ++ (bytesOf 8 signers ++ payloadIn xs)) first ∙ append-assoc (bytesOf 4 (number (part 0 4 xs))) _ _)

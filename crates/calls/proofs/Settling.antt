@@ -1,4 +1,4 @@
--- What `settle` leaves in the two buffers is what receiving says. From the laws of well-formed records.
+-- What becomes of a decision, in the answer and in the two buffers, is what receiving says. From the laws of well-formed records.
 -- Assumes nothing.
 use mathlib.Core.Path.{_≡_, refl, sym, ap, ap₂, _∙_}
 use mathlib.Core.Bool.{true, false, cond}
@@ -6,22 +6,24 @@ use mathlib.Core.List.{List}
 use Prim.Native.Nat.{ℕ}
 use lib.ListN.{length}
 use Rattle.signers.specs.Signers as signers
-use Rattle.refusal.specs.Outcome.{Outcome, refused, done, after, _and-then_}
+use Rattle.octets.specs.Octets.{Bytes}
+use Rattle.refusal.specs.Outcome.{Outcome, refused, done, after, checked, _and-then_}
+use Rattle.refusal.proofs.Reasons.{refused-not-done}
 use Rattle.config.specs.declared.Config.{Config}
 use Rattle.config.specs.Config.{quorum, place, recordsSize}
 use Rattle.config.proofs.Laws.{good-says}
 use Rattle.bundle.specs.declared.Header.{Header}
-use Rattle.bundle.specs.Bundle.{bundleOf, read, payloadPart, slotOf, headerOf}
+use Rattle.bundle.specs.Bundle.{bundleOf, read, payloadIn, payloadPart, slotIn, slotOf, headerOf, resigned}
+use Rattle.bundle.proofs.RoundTrip.{resigned-accepted}
 use Rattle.protocol.specs.Update.{Answer, signersOf, payloadOf, isEmpty, sends, Update, update}
 use Rattle.protocol.proofs.WellFormed.{WellFormed, update-well-formed, update-payload}
-use Rattle.record.specs.Record.{encoding, signersField, payloadField, decoded, wellFormed, received, encodedUpdate}
-use Rattle.record.proofs.UpdateCases.{received-done}
+use Rattle.record.specs.Record.{encoding, signersField, decoded, wellFormed, encodedUpdate}
 use Rattle.record.proofs.Encoding.{decoded-well-formed, encoding-fields}
 use Rattle.calls.specs.Records.{recordAt, stored}
-use Rattle.calls.specs.Receive.{recordBundle, receive, receiveRecords, receiveOut, reported}
-use Rattle.calls.specs.Inner.{sent, settledReceipt, settledRecords, settledOut}
+use Rattle.calls.specs.Receive.{recordBundle, receiveReasons, receive, receiveRecords, receiveOut, reported}
+use Rattle.calls.specs.Inner.{settledReceipt, settledRecords, settledOut}
 use Rattle.calls.proofs.Records.{recordAt-length}
-use Rattle.calls.proofs.ReceiveFacts.{read-says}
+use Rattle.calls.proofs.ReceiveFacts.{read-says, receive-done}
 
 module _ (config : Config) (bundle records out : List ℕ) (h : Header) (e : read config bundle ≡ done h) (l : length records ≡ recordsSize config) where
   -- the record of an update is well-formed, and not empty
@@ -40,41 +42,77 @@ module _ (config : Config) (bundle records out : List ℕ) (h : Header) (e : rea
             (decoded-well-formed config (h .sender) (recordAt config (slotOf h) records) long formed) (sym taken ∙ o),
       )
 
-  module _ (recorded : receive config bundle records out ≡ received config (h .sender) (h .signers) (payloadPart config bundle) (recordAt config (slotOf h) records)) where
-    -- and is read back from its bytes
-    result-fields : (result : Update) → receive config bundle records out ≡ done result
-        → (signersField (encoding (result .newRecord)) ≡ signersOf (result .newRecord)) × (payloadField (encoding (result .newRecord)) ≡ payloadOf (result .newRecord))
-    result-fields result o =
-        let (formed, taken) = received-done config (h .sender) (h .signers) (payloadPart config bundle) (recordAt config (slotOf h) records) result (sym recorded ∙ o) in
-        let (some, fine) = result-well-formed formed (o ∙ sym taken) result o in
-        encoding-fields (config .n) (h .sender) (quorum config) (config .own) (good-says config (read-says config bundle h e .configured) .most) (result .newRecord) some fine
+module _ (config : Config) (bundle records out : List ℕ) where
+  -- a bundle that is received was read
+  receive-read : (result : Update) → receive config bundle records out ≡ done result → (h : Header) × (read config bundle ≡ done h)
+  unfolding receive
+  receive-read result o = go (read config bundle) refl o
+    where
+      go : (b : Outcome Header) → read config bundle ≡ b
+          → (b and-then λ h. checked (receiveReasons config bundle records out h) and-then λ _.
+          update (config .own) (quorum config) (h .signers) (payloadPart config bundle) (decoded (recordAt config (slotOf h) records))) ≡ done result
+          → (h : Header) × (read config bundle ≡ done h)
+      go (refused number) e f = absurd (refused-not-done number result f)
+      go (done h) e f = (h, e)
 
-    module _ (received : Outcome (Answer × List ℕ)) (same-received : received ≡ encodedUpdate (receive config bundle records out)) where
-      -- the answer and the number of signers, the records, and the outgoing bytes
-      pub settled-receipt : settledReceipt received ≡ (receive config bundle records out and-then λ result. done (reported result))
-      unfolding settledReceipt encodedUpdate reported
-      settled-receipt = ap settledReceipt same-received ∙ go (receive config bundle records out) refl
-        where
-          go : (o : Outcome Update) → receive config bundle records out ≡ o → settledReceipt (encodedUpdate o) ≡ (o and-then λ result. done (reported result))
-          go (refused number) q = refl
-          go (done result) q = ap (λ (k : ℕ). done (result .answer, signers.size k)) (result-fields result q .0)
+  -- its record is read back from its bytes, and has the bundle's payload
+  result-fields : (result : Update) → receive config bundle records out ≡ done result
+      → (signersField (encoding (result .newRecord)) ≡ signersOf (result .newRecord)) × (payloadOf (result .newRecord) ≡ payloadIn bundle)
+  result-fields result o =
+      let (h, e) = receive-read result o in
+      let (_, size, taken, formed) = receive-done config bundle records out h e result o in
+      let ok = read-says config bundle h e in
+      let (some, fine) = result-well-formed config bundle records out h e size formed (o ∙ sym taken) result o in (
+        encoding-fields (config .n) (h .sender) (quorum config) (config .own) (good-says config (ok .configured) .most) (result .newRecord) some fine .0,
+        update-payload (config .own) (quorum config) (h .signers) (payloadPart config bundle) (decoded (recordAt config (slotOf h) records)) result taken .1 ∙ ok .payload,
+      )
 
-      pub settled-records : (start : ℕ) → start ≡ place config (slotOf h) → settledRecords start received records ≡ receiveRecords config bundle records out
-      unfolding settledRecords encodedUpdate receiveRecords stored
-      settled-records start there =
-          ap₂ (λ o k. settledRecords k o records) same-received there ∙ rw (read-says config bundle h e .slot-named) (go (receive config bundle records out))
-        where
-          go : (o : Outcome Update) → settledRecords (place config (slotOf h)) (encodedUpdate o) records ≡ after o (λ result. stored config (slotOf h) (encoding (result .newRecord)) records) records
-          go (refused number) = refl
-          go (done result) = refl
+  -- the answer and the number of signers,
+  pub settled-receipt : settledReceipt (encodedUpdate (receive config bundle records out)) ≡ (receive config bundle records out and-then λ result. done (reported result))
+  unfolding settledReceipt encodedUpdate reported
+  settled-receipt = go (receive config bundle records out) refl
+    where
+      go : (o : Outcome Update) → receive config bundle records out ≡ o → settledReceipt (encodedUpdate o) ≡ (o and-then λ result. done (reported result))
+      go (refused number) q = refl
+      go (done result) q = ap (λ (k : ℕ). done (result .answer, signers.size k)) (result-fields result q .0)
 
-      pub settled-out : settledOut (slotOf h) received out ≡ receiveOut config bundle records out
-      unfolding settledOut encodedUpdate receiveOut sent recordBundle
-      settled-out = ap (λ o. settledOut (slotOf h) o out) same-received ∙ rw (read-says config bundle h e .slot-named) (go (receive config bundle records out) refl)
-        where
-          go : (o : Outcome Update) → receive config bundle records out ≡ o
-              → settledOut (slotOf h) (encodedUpdate o) out ≡ after o (λ result. cond (sends (result .answer)) (recordBundle (slotOf h) (result .newRecord)) out) out
-          go (refused number) q = refl
-          go (done result) q =
-              let (s, p) = result-fields result q in
-              ap₂ (λ (x : ℕ) (ys : List ℕ). cond (sends (result .answer)) (bundleOf (headerOf (slotOf h) x) ys) out) s p
+  -- the records,
+  pub settled-records : settledRecords (place config (slotIn bundle)) (encodedUpdate (receive config bundle records out)) records ≡ receiveRecords config bundle records out
+  unfolding settledRecords encodedUpdate receiveRecords stored
+  settled-records = go (receive config bundle records out)
+    where
+      go : (o : Outcome Update)
+          → settledRecords (place config (slotIn bundle)) (encodedUpdate o) records
+          ≡ after o (λ result. stored config (slotIn bundle) (encoding (result .newRecord)) records) records
+      go (refused number) = refl
+      go (done result) = refl
+
+  -- and the outgoing bytes: the bundle that came in, with the record's signers, is the record's
+  pub settled-out : Bytes bundle → settledOut bundle (encodedUpdate (receive config bundle records out)) out ≡ receiveOut config bundle records out
+  unfolding settledOut encodedUpdate receiveOut recordBundle
+  settled-out bytes = go (receive config bundle records out) refl
+    where
+      go : (o : Outcome Update) → receive config bundle records out ≡ o
+          → settledOut bundle (encodedUpdate o) out ≡ after o (λ result. cond (sends (result .answer)) (recordBundle (slotIn bundle) (result .newRecord)) out) out
+      go (refused number) q = refl
+      go (done result) q =
+          let (s, p) = result-fields result q in
+          let (h, e) = receive-read result q in
+          let room = receive-done config bundle records out h e result q .0 in
+          ap (λ (ys : List ℕ). cond (sends (result .answer)) ys out)
+          (ap (λ (x : ℕ). resigned bundle x out) s
+          ∙ resigned-accepted config bundle out h (signersOf (result .newRecord)) bytes e room
+          ∙ ap (bundleOf (headerOf (slotIn bundle) (signersOf (result .newRecord)))) (sym p))
+
+  -- where receiving refuses, the decision does, and the other way round
+  pub refused-decided : (number : ℕ) → receive config bundle records out ≡ refused number → refused number ≡ encodedUpdate (receive config bundle records out)
+  unfolding encodedUpdate
+  refused-decided number e = rw e
+
+  pub decided-refused : (number : ℕ) → refused number ≡ encodedUpdate (receive config bundle records out) → receive config bundle records out ≡ refused number
+  unfolding encodedUpdate
+  decided-refused number e = go (receive config bundle records out) refl e
+    where
+      go : (o : Outcome Update) → receive config bundle records out ≡ o → refused number ≡ encodedUpdate o → receive config bundle records out ≡ refused number
+      go (refused other) q f = let same : other ≡ number = cc in q ∙ ap refused same
+      go (done result) q f = absurd (refused-not-done number (result .answer, encoding (result .newRecord)) f)

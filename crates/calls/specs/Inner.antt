@@ -1,36 +1,50 @@
--- What the private functions of this crate promise each other: what becomes of a record that received a bundle, given by its answer and the bytes that
--- it then has, and the search over the rest of our records. No public contract rests on these; a reader may pass them over.
+-- What the private functions of this crate promise each other: what a bundle comes to, and what becomes of that; given by its answer and the bytes that the
+-- record then has. And the search over the rest of our records. No public contract rests on these; a reader may pass them over.
 -- Assumes nothing.
 use mathlib.Core.Path.{_≡_}
 use mathlib.Core.Bool.{cond}
 use mathlib.Core.List.{List}
-use Prim.Native.Nat.{ℕ, zero, suc, _-_, _/_}
+use Prim.Native.Nat.{ℕ, zero, suc, _+_, _-_, _/_, _≤_}
 use lib.Dec.{eqb, ltb}
 use lib.ListN.{length, take, drop}
 use Rattle.octets.specs.Octets.{blank}
 use Rattle.signers.specs.Signers as signers
 use Rattle.signers.specs.Signers.{below, insert}
+use Rattle.refusal.specs.Refusal.{numberOf}
 use Rattle.refusal.specs.Outcome.{Outcome, refused, done, after, _and-then_}
 use Rattle.config.specs.declared.Config.{Config}
 use Rattle.config.specs.declared.Slot.{Slot}
-use Rattle.config.specs.Config.{quorum, slots, recordSize}
-use Rattle.bundle.specs.Bundle.{bundleOf, headerOf}
+use Rattle.config.specs.Config.{quorum, slots, recordSize, place}
+use Rattle.bundle.specs.Bundle.{bundleOf, headerOf, slotIn, resigned}
 use Rattle.protocol.specs.Update.{Answer, sends}
-use Rattle.record.specs.Record.{signersField, payloadField, wellFormed}
+use Rattle.record.specs.Record.{signersField, payloadField, wellFormed, receivedOf}
+use Rattle.calls.specs.declared.Decision.{Decision}
+use Rattle.calls.specs.declared.Decision.the-variants.{Made, Refused}
 use Rattle.calls.specs.Records.{replaced}
 
 -- the bundle of a record, given by its bytes
 unfoldable pub sent : Slot → (bytes : List ℕ) → List ℕ
 sent slot bytes = bundleOf (headerOf slot (signersField bytes)) (payloadField bytes)
 
+-- what was decided: the number and values of each case (R17.3)
+abbrev pub decisionOf : Decision → Outcome (Answer × List ℕ)
+decisionOf (Made start received) = receivedOf received
+decisionOf (Refused reason) = refused (numberOf reason)
+
+-- a decision that came as far as a record has found it at the place of the bundle's slot
+abbrev pub Placed : Config → (bundle records : List ℕ) → Decision → Type 0
+Placed config bundle records (Made start received) = (start ≡ place config (slotIn bundle)) × (start + recordSize ≤ length records)
+Placed config bundle records (Refused reason) = Unit
+
+-- what becomes of it: the answer with its count, the records, and the outgoing bytes
 unfoldable pub settledReceipt : Outcome (Answer × List ℕ) → Outcome (Answer × ℕ)
 settledReceipt received = received and-then (λ result. done (result .0, signers.size (signersField (result .1))))
 
 unfoldable pub settledRecords : ℕ → Outcome (Answer × List ℕ) → List ℕ → List ℕ
 settledRecords start received records = after received (λ result. replaced start (result .1) records) records
 
-unfoldable pub settledOut : Slot → Outcome (Answer × List ℕ) → (out : List ℕ) → List ℕ
-settledOut slot received out = after received (λ result. cond (sends (result .0)) (sent slot (result .1)) out) out
+unfoldable pub settledOut : (bundle : List ℕ) → Outcome (Answer × List ℕ) → (out : List ℕ) → List ℕ
+settledOut bundle received out = after received (λ result. cond (sends (result .0)) (resigned bundle (signersField (result .1)) out) out) out
 
 -- sets and quorum are those of the configuration
 abbrev pub SetsOf : Config → ℕ → ℕ → ℕ → Type 0

@@ -1,4 +1,5 @@
-// R1.1: the calls of a node: opening a day, broadcasting, receiving, and showing what was delivered.
+// R1.1: the calls of a node: opening a day, broadcasting, receiving, looking at what receiving would do, and showing what
+// was delivered.
 //
 // Each is defined for all bytes, lengths and numbers over the buffers that it is given (R1.4). It refuses by
 // the first reason that applies (R5.2), and then leaves every byte as it is (R5.1).
@@ -17,13 +18,13 @@ ghost use Rattle.refusal.specs.Refusal.{verdictOf, numberOf};
 ghost use Rattle.refusal.specs.Outcome.{plain, _and-then_, done};
 ghost use Rattle.config.specs.Config.{slots, recordSize, slotOfDay};
 ghost use Rattle.bundle.specs.Bundle.{readingOf, slotOf, bundleSize};
-ghost use Rattle.record.specs.Record.{bytes, receivedOf};
+ghost use Rattle.record.specs.Record.{bytes, receivedOf, encodedUpdate};
 ghost use Rattle.calls.specs.Records.{replaced};
 ghost use Rattle.calls.specs.Open.{opened, openRecords};
 ghost use Rattle.calls.specs.Broadcast.{broadcast as broadcastOf, broadcastRecords, broadcastOut, announcementOf, announcementCount};
 ghost use Rattle.calls.specs.Receive.{receive as receiveOf, receiveRecords, receiveOut, reported, receiptOf, receiptCount};
 ghost use Rattle.calls.specs.Showing.{delivered as deliveredOf, deliveredPart, deliveredPlace};
-ghost use Rattle.calls.specs.Inner.{Found, settledReceipt, settledRecords, settledOut, numberIn, sent};
+ghost use Rattle.calls.specs.Inner.{Found, decisionOf, Placed, settledReceipt, settledRecords, settledOut, numberIn, sent};
 
 // The answer of broadcasting: the sequence number used (R7.3).
 pub enum Announcement {
@@ -133,22 +134,26 @@ pub fn receive(config: Config, bundle: &[u8], records: &mut [u8], out: &mut [u8]
     ensures { λ _. ⌜ now (records .exit) ≡ receiveRecords config (now (bundle .entry)) (now (records .entry)) (now (out .entry)) ⌝ }
     ensures { λ _. ⌜ now (out .exit) ≡ receiveOut config (now (bundle .entry)) (now (records .entry)) (now (out .entry)) ⌝ }
 {
-    let reading = bundle::read(config, bundle);
-    let Reading::Accepted(header) = reading else {
-        return Receipt::Refused(reason(reading));
-    };
-    if out.len() != bundle::SIZE {
-        return Receipt::Refused(Refusal::OutLength);
+    match decide(config, bundle, records, out) {
+        Decision::Made(start, received) => {
+            store(start, received, records);
+            answer(bundle, received, out)
+        }
+        Decision::Refused(reason) => Receipt::Refused(reason),
     }
-    if records.len() != config.records_size() {
-        return Receipt::Refused(Refusal::RecordsLength);
+}
+
+// R8.9 to R8.12: what receiving the bundle would answer and leave in `out`. The records are lent for reading, and
+// nothing of it is sent.
+pub fn preview(config: Config, bundle: &[u8], records: &[u8], out: &mut [u8]) -> Receipt
+    ensures { λ r. ⌜ receiptOf r ≡ (receiveOf config (now (bundle .entry)) (now (records .entry)) (now (out .entry)) and-then λ result. done (reported result)) ⌝ }
+    ensures { λ _. ⌜ now (out .exit) ≡ receiveOut config (now (bundle .entry)) (now (records .entry)) (now (out .entry)) ⌝ }
+{
+    let decision = decide(config, bundle, records, out);
+    match decision {
+        Decision::Made(_, received) => answer(bundle, received, out),
+        Decision::Refused(reason) => Receipt::Refused(reason),
     }
-    let slot = config.slot_of_day(header.sender, header.seq);
-    let start = slot.place();
-    let record = get(start, records);
-    let payload = bundle::load_payload(bundle);
-    let received = record.receive(config, header.sender, header.signers, payload);
-    settle(header, start, received, records, out)
 }
 
 // R9.1: whether the slot is delivered, or why it cannot be shown.
@@ -229,33 +234,64 @@ fn reason(reading: Reading) -> Refusal
     }
 }
 
-// Does what receiving gave: stores the record, writes its bundle, or neither.
-fn settle(
-    header: Header,
-    start: usize,
-    received: Received,
-    records: &mut [u8],
-    out: &mut [u8],
-) -> Receipt
+// What a bundle comes to, before anything is stored or sent: where its slot's record starts and what that record
+// makes of it, or why it is refused before a record is looked at.
+enum Decision {
+    Made(usize, Received),
+    Refused(Refusal),
+}
+
+// R8.1 to R8.6: reads the bundle, checks the buffers, loads the slot's record and hands it the bundle. Receiving and its
+// preview differ in what becomes of this.
+fn decide(config: Config, bundle: &[u8], records: &[u8], outgoing: &[u8]) -> Decision
+    ensures { λ r. ⌜ decisionOf r ≡ encodedUpdate (receiveOf config (now (bundle .entry)) (now (records .entry)) (now (outgoing .entry))) ⌝ }
+    ensures { λ r. ⌜ Placed config (now (bundle .entry)) (now (records .entry)) r ⌝ }
+{
+    let reading = bundle::read(config, bundle);
+    let Reading::Accepted(header) = reading else {
+        return Decision::Refused(reason(reading));
+    };
+    if outgoing.len() != bundle::SIZE {
+        return Decision::Refused(Refusal::OutLength);
+    }
+    if records.len() != config.records_size() {
+        return Decision::Refused(Refusal::RecordsLength);
+    }
+    let slot = config.slot_of_day(header.sender, header.seq);
+    let start = slot.place();
+    let record = get(start, records);
+    let payload = bundle::load_payload(bundle);
+    let received = record.receive(config, header.sender, header.signers, payload);
+    Decision::Made(start, received)
+}
+
+// Stores the record that came of a bundle; after a refusal nothing.
+fn store(start: usize, received: Received, records: &mut [u8])
     requires { ⌜ start + recordSize ≤ length (now records) ⌝ }
-    requires { ⌜ length (now out) ≡ bundleSize ⌝ }
-    ensures { λ r. ⌜ receiptOf r ≡ settledReceipt (receivedOf received) ⌝ }
     ensures { λ _. ⌜ now (records .exit) ≡ settledRecords start (receivedOf received) (now (records .entry)) ⌝ }
-    ensures { λ _. ⌜ now (out .exit) ≡ settledOut (slotOf header) (receivedOf received) (now (out .entry)) ⌝ }
 {
     match received {
-        Received::Kept(record) => {
-            put(start, record, records);
-            Receipt::Kept(signers::size(record.signers))
-        }
+        Received::Kept(record) => put(start, record, records),
+        Received::Signed(record) => put(start, record, records),
+        Received::Delivered(record) => put(start, record, records),
+        Received::Refused(_) => {}
+    }
+}
+
+// R8.6 to R8.8: the answer to a bundle, and what goes out. The record's bundle is the one that came in, with the record's
+// signers.
+fn answer(bundle: &[u8], received: Received, out: &mut [u8]) -> Receipt
+    ensures { λ r. ⌜ receiptOf r ≡ settledReceipt (receivedOf received) ⌝ }
+    ensures { λ _. ⌜ now (out .exit) ≡ settledOut (now (bundle .entry)) (receivedOf received) (now (out .entry)) ⌝ }
+{
+    match received {
+        Received::Kept(record) => Receipt::Kept(signers::size(record.signers)),
         Received::Signed(record) => {
-            put(start, record, records);
-            send(header, record, out);
+            bundle::with_signers(bundle, record.signers, out);
             Receipt::Signed(signers::size(record.signers))
         }
         Received::Delivered(record) => {
-            put(start, record, records);
-            send(header, record, out);
+            bundle::with_signers(bundle, record.signers, out);
             Receipt::Delivered(signers::size(record.signers))
         }
         Received::Refused(reason) => Receipt::Refused(reason),

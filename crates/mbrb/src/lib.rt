@@ -64,7 +64,7 @@ pub extern "C" fn mbrb_receive(
 }
 
 // The configuration that a host gives as numbers.
-fn config(n: u8, t: u8, d: u8, own: u8, day: u32) -> Config
+pub fn config(n: u8, t: u8, d: u8, own: u8, day: u32) -> Config
     ensures { λ r. ⌜ r ≡ configOf n t d own day ⌝ }
 {
     Config { n, t, d, own, day }
@@ -88,7 +88,7 @@ fn announcement_code(announcement: Announcement) -> u32
     }
 }
 
-fn receipt_code(receipt: Receipt) -> u32
+pub fn receipt_code(receipt: Receipt) -> u32
     ensures { λ r. ⌜ r ≡ reportedCode (receiptOf receipt) ⌝ }
 {
     match receipt {

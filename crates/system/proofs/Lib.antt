@@ -10,6 +10,7 @@ pub mod Simulation
 pub mod Demand3
 pub mod Differences
 pub mod Shown
+pub mod Previews
 pub mod OrderlyRefusals
 pub mod Computing
 pub mod ComputedTests

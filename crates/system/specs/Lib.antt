@@ -5,5 +5,6 @@ pub mod Example
 pub mod SlotBySlot
 pub mod Differences
 pub mod Shown
+pub mod Previews
 pub mod Play
 pub mod Tight

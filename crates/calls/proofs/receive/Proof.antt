@@ -1,172 +1,67 @@
--- `receive` meets its contract: each refusal follows from the tests passed before it, and the rest from the update and its settling. Assumes nothing.
-use mathlib.Core.Path.{_≡_, sym, ap, ap₂, _∙_}
-use mathlib.Core.Bool.{true}
-use mathlib.Core.List.{List, _++_}
+-- `receive` meets its contract: what was decided is stored and answered. Assumes nothing.
+use mathlib.Core.Path.{_≡_, sym, ap, ap₂, _∙_, subst}
+use mathlib.Core.List.{List}
 use Prim.Native.Nat.{ℕ}
-use lib.ListN.{length}
-use borrow.Author.Needs.{needs}
-use Rattle.payload.specs.Payload as payload
-use Rattle.refusal.specs.Outcome.{refused, done}
+use Rattle.octets.specs.Octets.{Bytes}
+use Rattle.refusal.specs.Outcome.{Outcome}
 use Rattle.config.specs.declared.Config.{Config}
-use Rattle.config.specs.declared.Slot.{Slot}
-use Rattle.config.specs.Config.{slotOfDay, slotPlace, place, recordsSize}
-use Rattle.config.proofs.Laws.{place-slot}
-use Rattle.bundle.specs.declared.Header.{Header}
-use Rattle.bundle.specs.Bundle.{read, readingOf, payloadPart, slotOf}
-use Rattle.bundle.proofs.Accepted.{accepted-readable}
-use Rattle.bundle.proofs.Fields.{loaded-payload}
-use Rattle.record.specs.Record.{bytes, received, encodedUpdate, receivedOf}
-use Rattle.calls.specs.Records.{recordAt}
+use Rattle.protocol.specs.Update.{Answer}
+use Rattle.record.specs.Record.{receivedOf, encodedUpdate}
+use Rattle.calls.specs.declared.Decision.the-variants.{Made}
 use Rattle.calls.specs.Receive.{receive}
-use Rattle.calls.specs.Inner.{numberIn}
-use Rattle.calls.proofs.RecordBounds.{record-at}
-use Rattle.calls.proofs.Records.{place-fits}
-use Rattle.calls.proofs.ReceiveFacts.{Read, read-says}
-use Rattle.calls.proofs.Refusals.{receive-no-effect, receive-unread, receive-out, receive-size, receive-recorded}
-use Rattle.calls.proofs.Settling.{settled-receipt, settled-records, settled-out}
+use Rattle.calls.specs.Inner.{decisionOf, Placed, settledReceipt, settledRecords, settledOut}
+use Rattle.calls.proofs.Refusals.{receive-no-effect}
+use Rattle.calls.proofs.Settling.{settled-receipt, settled-records, settled-out, decided-refused}
+use borrow.Author.Needs.{needs}
 use Rattle.calls.proofs.receive.Statement.{statement}
 use Rattle.calls.proofs.receive.Tie as tie
+use Rattle.calls.proofs.answer.Reads as answer-reads
+use Rattle.calls.proofs.decide.Reads as decide-reads
+use Rattle.calls.proofs.store.Reads as store-reads
 
--- ---- the places on the way, each from a later one, and what is known there
+-- ---- what is known where a decision was made
 
-abbrev entry : tie.After-known-told → tie.Start
-entry c = c .before .before .before .before .before .before .before
+module _ (c : tie.After-start) where
+  abbrev entry : tie.Start
+  entry = c .before .before .before .before .before .before .before .before
 
-abbrev header : tie.After-known-told → Header
-header c = c .before .reading .given .0 .0
-
-abbrev accepting : tie.Else2 → tie.After-known-told
-accepting c = c .before .before .before
-
-abbrev sized : tie.After-place → tie.Else2
-sized c = c .before .before
-
-abbrev placed : tie.After-get → tie.After-place
-placed c = c .before .before
-
-abbrev loaded : tie.After-receive → tie.After-get
-loaded c = c .before .before
-
--- reading has accepted the bundle
-accepted : (c : tie.After-known-told) → read (entry c .args .config) (entry c .args .bundle .now) ≡ done (header c)
-accepted c = sym (c .before .before .before .read .ensures) ∙ ap readingOf (c .before .reading .given .1)
-
--- ---- what is known after the lengths
-
-module _ (c : tie.Else2) where
   abbrev config : Config
-  config = entry (accepting c) .args .config
+  config = entry .args .config
 
   abbrev bundle : List ℕ
-  bundle = entry (accepting c) .args .bundle .now
+  bundle = entry .args .bundle .now
 
   abbrev records : List ℕ
-  records = entry (accepting c) .args .records .now
+  records = entry .args .records .now
 
   abbrev out : List ℕ
-  out = entry (accepting c) .args .out .now
+  out = entry .args .out .now
 
-  abbrev fields : Header
-  fields = header (accepting c)
+  bytes-known : Bytes bundle
+  bytes-known i = c .before .before .before .before .before .before .before .shared-slice-known .given i .fits
 
-  is-read : Read config bundle fields
-  is-read = read-says _ _ _ (accepted (accepting c))
+  made : receivedOf (c .start .given .0 .1 .0) ≡ encodedUpdate (receive config bundle records out)
+  made = ap decisionOf (sym (c .start .given .1)) ∙ c .before .before .decide .ensures .0
 
-  long-known : length records ≡ recordsSize config
-  long-known = c .if2 .left ∙ c .before .records-size .ensures
-
-  -- receiving is what the slot's record makes of the bundle
-  recorded : receive config bundle records out
-      ≡ received config (fields .sender) (fields .signers) (payloadPart config bundle) (recordAt config (slotOf fields) records)
-  recorded = receive-recorded _ _ _ _ _ (accepted (accepting c)) (c .before .before .if1 .left) long-known
-
--- ---- and at the update
-
-slot-known : (c : tie.After-place) → c .before .slot-of-day .result ≡ slotOf (fields (sized c))
-unfolding slotOfDay
-slot-known c =
-    c .before .slot-of-day .ensures
-    ∙ ap {B = Slot} (λ (d : ℕ). record { day = d; sender = fields (sized c) .sender; seq = fields (sized c) .seq }) (sym (is-read (sized c) .today))
-
-place-known : (c : tie.After-place) → c .place .result ≡ place (config (sized c)) (slotOf (fields (sized c)))
-place-known c = c .place .ensures ∙ ap slotPlace (slot-known c) ∙ sym (place-slot _ _ (is-read (sized c) .configured) (is-read (sized c) .range))
-
-module _ (c : tie.After-receive) where
-  abbrev known : tie.Else2
-  known = sized (placed (loaded c))
-
-  -- the record that was loaded is the slot's
-  record-known : bytes (loaded c .get .result) ≡ recordAt (config known) (slotOf (fields known)) (records known)
-  record-known = loaded c .get .ensures ∙ record-at _ _ _ _ (place-known (placed (loaded c)))
-
-  -- the value is the payload's
-  payload-known : payload.bytes (c .before .load-payload .result) ≡ payloadPart (config known) (bundle known)
-  payload-known =
-      c .before .load-payload .ensures
-      ∙ loaded-payload (bundle known) (accepted-readable _ _ _ (accepted (accepting known)) .0 .long)
-      ∙ sym (is-read known .payload)
-
-  stepped : receivedOf (c .receive .result) ≡ encodedUpdate (receive (config known) (bundle known) (records known) (out known))
-  stepped =
-      c .receive .ensures
-      ∙ ap₂ (λ p xs. encodedUpdate (received (config known) (fields known .sender) (fields known .signers) p xs)) payload-known record-known
-      ∙ ap encodedUpdate (sym (recorded known))
+  found : Placed config bundle records (Made (c .start .given .0 .0) (c .start .given .0 .1 .0))
+  found = subst (Placed config bundle records) (c .start .given .1) (c .before .before .decide .ensures .1)
 
 -- ---- the needs
 
-read-requires : tie.Need-read-requires
-read-requires c κs = search needs
+decide-requires : tie.Need-decide-requires
+decide-requires c κs = search needs
 
-enum-known-reading : tie.Need-enum-known-reading
-enum-known-reading c = search needs
+enum-known-start : tie.Need-enum-known-start
+enum-known-start c = search needs
 
-enum-told : tie.Need-enum-told
-enum-told c = search needs
+store-requires : tie.Need-store-requires
+store-requires c κs = found (c .before .before) .1
 
-reason-requires : tie.Need-reason-requires
-reason-requires c κs = search needs
+answer-requires : tie.Need-answer-requires
+answer-requires c κs = search needs
 
-returns : tie.Need-returns
-returns c =
-    let told = ap readingOf (c .before .enum-told .given .1) in
-    receive-no-effect _ _ _ _ _ (receive-unread _ _ _ _ _ (sym (c .before .before .before .read .ensures) ∙ told ∙ ap refused (sym (c .reason .ensures ∙ ap numberIn told))))
-
-returns-2 : tie.Need-returns-2
-returns-2 c = receive-no-effect _ _ _ _ _ (receive-out _ _ _ _ _ (accepted (c .before)) (c .if1 .taken))
-
-records-size-requires : tie.Need-records-size-requires
-records-size-requires c κs = search needs
-
-returns-3 : tie.Need-returns-3
-returns-3 c =
-    let roomy = c .before .before in
-    receive-no-effect _ _ _ _ _ (receive-size _ _ _ _ _ (accepted (roomy .before)) (roomy .if1 .left) (λ q. c .if2 .taken (q ∙ sym (c .before .records-size .ensures))))
-
-slot-of-day-requires : tie.Need-slot-of-day-requires
-slot-of-day-requires c κs = search needs
-
-place-requires : tie.Need-place-requires
-place-requires c κs = search needs
-
-get-requires : tie.Need-get-requires
-get-requires c κs =
-    let at = c .before in
-    let ok = sized at in
-    rw (place-known at) (place-fits _ (is-read ok .configured) (records ok) (long-known ok) _ (is-read ok .range))
-
-load-payload-requires : tie.Need-load-payload-requires
-load-payload-requires c κs = search needs
-
-receive-requires : tie.Need-receive-requires
-receive-requires c κs = search needs
-
-settle-requires : tie.Need-settle-requires
-settle-requires c κs =
-    let step = c .before .before in
-    let ok = known step in (
-      rw (place-known (placed (loaded step))) (place-fits _ (is-read ok .configured) (records ok) (long-known ok) _ (is-read ok .range)),
-      ok .before .before .if1 .left,
-    )
+enum-known-reason : tie.Need-enum-known-reason
+enum-known-reason c = search needs
 
 same-length : tie.Need-same-length
 same-length c = search needs
@@ -174,37 +69,45 @@ same-length c = search needs
 same-length-2 : tie.Need-same-length-2
 same-length-2 c = search needs
 
-returns-4 : tie.Need-returns-4
-returns-4 c =
-    let settled = c .before .before .before .before in
-    let step = settled .before .before .before in
-    let ok = known step in
-    let read-so = accepted (accepting ok) in (
-      settled .settle .ensures .0 ∙ settled-receipt _ _ _ _ _ read-so (long-known ok) (recorded ok) _ (stepped step),
+returns : tie.Need-returns
+returns c =
+    let answered = c .before .before in
+    let stored = answered .before .before .before .before in
+    let told = stored .before .before .before in (
+      answered .answer .ensures .0 ∙ ap settledReceipt (made told) ∙ settled-receipt _ _ _ _,
       (
-        settled .settle .ensures .1 .0 ∙ settled-records _ _ _ _ _ read-so (long-known ok) (recorded ok) _ (stepped step) _ (place-known (placed (loaded step))),
-        settled .settle .ensures .1 .1 ∙ settled-out _ _ _ _ _ read-so (long-known ok) (recorded ok) _ (stepped step),
+        stored .store .ensures
+            ∙ ap₂ (λ (k : ℕ) (o : Outcome (Answer × List ℕ)). settledRecords k o (records told)) (found told .0) (made told)
+            ∙ settled-records _ _ _ _,
+        answered .answer .ensures .1
+            ∙ ap (λ (o : Outcome (Answer × List ℕ)). settledOut (bundle told) o (out told)) (made told)
+            ∙ settled-out _ _ _ _ (bytes-known told),
       ),
     )
+
+same-length-3 : tie.Need-same-length-3
+same-length-3 c = search needs
+
+same-length-4 : tie.Need-same-length-4
+same-length-4 c = search needs
+
+returns-2 : tie.Need-returns-2
+returns-2 c =
+    let told = c .before .before .before in
+    receive-no-effect _ _ _ _ _ (decided-refused _ _ _ _ _ (ap decisionOf (sym (c .before .reason .given .1)) ∙ told .decide .ensures .0))
 
 pub receive-spec : {M : Type 1} → statement M
 receive-spec =
     tie.close
     (tie.spec
-    read-requires
-    enum-known-reading
-    enum-told
-    reason-requires
-    returns
-    returns-2
-    records-size-requires
-    returns-3
-    slot-of-day-requires
-    place-requires
-    get-requires
-    load-payload-requires
-    receive-requires
-    settle-requires
+    decide-requires
+    enum-known-start
+    store-requires
+    answer-requires
+    enum-known-reason
     same-length
     same-length-2
-    returns-4)
+    returns
+    same-length-3
+    same-length-4
+    returns-2)
