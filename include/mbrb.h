@@ -3,9 +3,10 @@
  * A cascade has n units. Any t of them may be faulty, and each sending may miss d sound ones; n > 3t + 2d. A unit
  * announces a body of 16 bytes, takes the bundles that come in, and sends what the calls tell it to send. No two sound
  * units deliver different bodies in one slot (a day, a sender, a number from 0 to 15), whatever faulty units send and
- * whatever is lost, late, twice or out of order. This is proved of lists of calls of the three functions below, with
- * every code and byte that they give; section 9 says what is argued of hosts that keep to this page. Every host needs
- * sections 1 to 8, in this order; 9 to 11 are to look up.
+ * whatever is lost, late, twice or out of order. This is proved of lists of calls of mbrb_open, mbrb_broadcast and
+ * mbrb_receive, with every code and byte that they give; section 9 says what is argued of hosts that keep to this page.
+ * The fourth function, mbrb_preview, tells a display what taking a bundle would do, and does nothing of it. Every host
+ * needs sections 1 to 8, in this order; 9 to 11 are to look up, and 12 is for a host with a display.
  *
  *
  * 1. Link it
@@ -15,7 +16,7 @@
  *     cc host.c $(pkg-config --cflags --libs mbrb)
  *
  * with PREFIX/lib/pkgconfig in PKG_CONFIG_PATH if pkg-config does not look there by itself.
- * Without installing, `rt staticlib mbrb` writes target/staticlib/libmbrb.a. It is x86-64 code for the System V calling
+ * Without installing, `tools/library` writes target/lib/libmbrb.a. It is x86-64 code for the System V calling
  * convention (section 11 has other processors). examples/host has a program to start from.
  *
  *
@@ -28,7 +29,8 @@
  *      this one among them: a unit delivers its own announcement by taking it back with enough signatures. After any
  *      other code there is nothing to send.
  *   5. After MBRB_DELIVERED act on the body in `out`, before or after sending it. It comes once for each slot.
- * A code from 1 to 99 is a refusal: no byte has changed, and the number says why. Section 8 says what to do.
+ * A code from 1 to 99 is a refusal: no byte has changed, and the number says why. Section 8 says what to do. A preview
+ * is none of these steps, and comes between them as often as a display wants it (section 12).
  *
  *
  * 3. The memory that a call is lent
@@ -36,10 +38,12 @@
  * - Each pointer has at least as many bytes behind it as the length beside it says, until the call is back. No pointer
  *   is null, not even one whose length is 0. Any alignment will do, and what `out` holds before does not matter.
  * - The buffers of a call do not overlap.
- * - Nobody else writes to them during the call, nor reads `records` or `out`: no interrupt, no other core, no device.
+ * - Nobody else writes to them during the call, nor reads `out`, nor `records` if the call is no preview: no interrupt,
+ *   no other core, no device.
  * - Calls on different records may run at once, since nothing is kept between calls. On the same records they come one
  *   after the other: a lock for two tasks spans the comparison of days (section 4), an opening, the call with the
- *   block's day, the saving, and the copying of `out`.
+ *   block's day, the saving, and the copying of `out`. It spans a preview too. Previews only read the records, so that
+ *   several may run at once on the same ones, each with its own `out`, while no other call does.
  * A call is safe with all bytes, lengths and numbers that keep to this.
  *
  *
@@ -65,9 +69,10 @@
  * unit that was off for longer then needs somebody who confirms the date. A day is any number that only grows and that
  * all units share; it may stand for an hour.
  *
- * What to save. A refusal changes no record. MBRB_KEPT, MBRB_SIGNED and MBRB_DELIVERED change the 32 bytes at
- * MBRB_RECORD_AT(sender, number), by the sender and number of the bundle taken. MBRB_ANNOUNCED(number) changes those at
- * MBRB_RECORD_AT(own, number). No other byte of the records changes, which is proved. mbrb_open changes all of them.
+ * What to save. A refusal and a preview change no record. MBRB_KEPT, MBRB_SIGNED and MBRB_DELIVERED of mbrb_receive
+ * change the 32 bytes at MBRB_RECORD_AT(sender, number), by the sender and number of the bundle taken.
+ * MBRB_ANNOUNCED(number) changes those at MBRB_RECORD_AT(own, number). No other byte of the records changes, which is
+ * proved. mbrb_open changes all of them.
  *   - These 32 bytes are saved all or nothing: after a loss of power either the old or the new ones are there. A
  *     mixture can be a record that claims signatures which nobody gave.
  *   - After MBRB_SIGNED, MBRB_DELIVERED and MBRB_ANNOUNCED(number) the record is saved before `out` is sent, before the
@@ -131,7 +136,7 @@
  * 7. The cascade and its radio
  *
  *   - n, t, d and day are the same at all units, and own is different at each. At most t units are faulty; a unit that
- *     breaks sections 3 to 6 is one of them.
+ *     breaks sections 3 to 6 or 12 is one of them.
  *   - The same bytes may be sent again, at any time and by anybody. To take them once more changes nothing, unless a
  *     restart has lost what they had changed.
  *   - For delivery each bundle that a sound unit sends comes to be taken at all sound units but d. It does not matter
@@ -174,16 +179,17 @@
  *
  * Proved of the functions, for all bytes, lengths and numbers: each code, each byte afterwards, that a refusal changes
  * none, that taking and announcing write to the record of their slot and to no other, that taking answers by this
- * record, the input, the table and the lengths, and announcing by our own sixteen records besides, and that a call ends.
+ * record, the input, the table and the lengths, and announcing by our own sixteen records besides, that a preview gives
+ * taking's code and `out` and leaves the records, and that a call ends.
  * Proved of whole lists of calls at sound units: agreement, at most one delivery and two sendings in a slot, only
  * announced bodies in a sound sender's slots, and delivery as in section 7; that 21 does not come there, nor 23 where
- * the bits are true. docs/CLAIMS.md has each with its file.
+ * the bits are true; and that previews between the calls change nothing of it. docs/CLAIMS.md has each with its file.
  *
- * Argued and not proved: that a host which keeps to sections 3 to 7 is such a list. The lists know no restart. A call
- * whose change was lost before anything of it was sent or acted on is left out of the list: its answer was seen by
- * nobody, and what is proved of records says that calls on other slots give the same answers without it. (Announcing
- * looks at several slots, so an announcement is saved before the next call.) With a lost MBRB_KEPT all of agreement
- * stands, and in delivery that bundle counts as one that has not reached this unit, until it comes again.
+ * Argued and not proved: that a host which keeps to sections 3 to 7, and to 12, is such a list. The lists know no
+ * restart. A call whose change was lost before anything of it was sent or acted on is left out of the list: its answer
+ * was seen by nobody, and what is proved of records says that calls on other slots give the same answers without it.
+ * (Announcing looks at several slots, so an announcement is saved before the next call.) With a lost MBRB_KEPT all of
+ * agreement stands, and in delivery that bundle counts as one that has not reached this unit, until it comes again.
  * tests/power_cuts tries it on examples/host. Assumed: the Rattle kit, its logic with its checker, front end and back
  * end, and the host's memset.
  *
@@ -192,15 +198,16 @@
  *
  *   - Memory: MBRB_RECORDS_SIZE(n) bytes of records, which the host gives. The library allocates nothing and has no
  *     data of its own.
- *   - Stack: 584 bytes for mbrb_broadcast with all sixteen numbers used (72 with none), 88 for mbrb_receive, 24 for
- *     mbrb_open, and for what the host's memset takes below it; besides, up to 40 bytes of arguments that the caller
- *     puts there. These are the frames of the machine code, return addresses included; tests/footprint sees the same on
- *     a stack that was painted before.
- *   - Code: 1,756 bytes. No vector or floating-point register is used. The one symbol that it takes from the host is
- *     memset, for mbrb_open.
- *   - mbrb_receive uses 32 bytes below the stack pointer (the red zone of the calling convention), counted above. Where
- *     interrupts run on the stack of what they interrupt, they must leave the 128 bytes below it alone, as the
- *     convention asks.
+ *   - Stack: 584 bytes for mbrb_broadcast with all sixteen numbers used (72 with none), 72 for mbrb_receive, 64 for
+ *     mbrb_preview, 24 for mbrb_open, and for what the host's memset takes below it; besides, up to 40 bytes of
+ *     arguments that the caller puts there. These are the frames of the machine code, return addresses included;
+ *     tests/footprint sees the same on a stack that was painted before.
+ *   - Code: 1,705 bytes, and 953 more where mbrb_preview is used: it is a member of its own in the library, and a host
+ *     that does not call it does not link it. No vector or floating-point register is used. The one symbol that the
+ *     library takes from the host is memset, for mbrb_open.
+ *   - mbrb_receive uses 16 bytes below the stack pointer (the red zone of the calling convention), and mbrb_preview 8,
+ *     counted above. Where interrupts run on the stack of what they interrupt, they must leave the 128 bytes below it
+ *     alone, as the convention asks.
  *
  *
  * 11. A controller that is no x86-64
@@ -210,6 +217,35 @@
  * and training, and be the measure for another implementation: give both the same calls, random ones and broken ones
  * too, and compare code, records and `out` byte by byte. rust/ does that with one written in Rust, on a million calls;
  * that one is for tests and nothing to ship. What such a comparison finds is found; it is no proof.
+ *
+ *
+ * 12. A service display
+ *
+ * mbrb_preview tells what taking a waiting bundle would do now. It gives the code that mbrb_receive would give with the
+ * same arguments, and leaves in `out` the bytes that this would leave there; the records are lent for reading and stay
+ * as they are. It is none of the calls that the lists of section 9 are made of. It may be called as often as wanted and
+ * changes nothing for any unit, which is proved (docs/RULES.md).
+ *
+ * A display may show
+ *   - that the bundle would be kept, signed, delivered or refused, and why (section 8);
+ *   - the signers that the record would have: at MBRB_SIGNED and MBRB_DELIVERED those in `out`, at MBRB_KEPT those of
+ *     the record and of the bundle together.
+ * It shows this as of now. A preview holds until the next call that changes the record of its slot: taking a bundle of
+ * that slot, opening, or, if the slot is ours, announcing.
+ *
+ * Before a preview the host does what it does before taking, or else taking would do something else than was shown:
+ *   - It compares the days (section 4), under the lock that spans the preview (section 3). Where the clock's is later,
+ *     taking opens the new day first, and there is nothing to show of the old one.
+ *   - It copies the bundle, the key chip checks the signatures, and the bit of each that does not hold is cleared
+ *     (section 6).
+ *
+ * After a preview it does nothing of what it does after taking:
+ *   - `out` is never sent, and no signature is made for it: our record would not know of it, and it could be our second
+ *     one in its slot. Use a buffer for `out` that is apart from the one that is sent from.
+ *   - Nothing is saved, and no signature that came with the bundle is stored.
+ *   - Nobody acts on the body: MBRB_DELIVERED means that it would be delivered, not that it is.
+ *   - The bundle is still to be taken. Until then it has not reached this unit (section 7).
+ * At 21 and 23 the unit does what section 8 says, at the latest when taking gives them: they tell of its records.
  */
 #ifndef MBRB_H
 #define MBRB_H
@@ -223,9 +259,9 @@ extern "C" {
 
 /* The version of this interface and of the formats below. CHANGELOG.md says what each number stands for. */
 #define MBRB_VERSION_MAJOR 1
-#define MBRB_VERSION_MINOR 0
+#define MBRB_VERSION_MINOR 1
 #define MBRB_VERSION_PATCH 0
-#define MBRB_VERSION "1.0.0"
+#define MBRB_VERSION "1.1.0"
 
 /* Sizes of the buffers, in bytes. */
 #define MBRB_BODY_SIZE 16
@@ -256,7 +292,8 @@ extern "C" {
 /* Code of mbrb_open. */
 #define MBRB_OPENED 0 /* the day is open: every byte of the records is zero */
 
-/* Codes of mbrb_receive. */
+/* Codes of mbrb_receive, and of mbrb_preview. In a preview they say what taking would do: nothing is noted, signed or
+ * delivered, and there is nothing to save, to send or to act on (section 12). */
 #define MBRB_KEPT 100      /* the signers are noted; nothing to send */
 #define MBRB_SIGNED 101    /* we sign this body: save, then send `out` */
 #define MBRB_DELIVERED 102 /* the body is delivered: save, then send `out` and act on the body */
@@ -267,25 +304,26 @@ extern "C" {
 #define MBRB_NUMBER(code) ((code) - 200u) /* the number in an announced code */
 
 /* Refusals, 1 to 99: the first that applies in this order. No byte has changed. In brackets the calls that may give it:
- * O mbrb_open, B mbrb_broadcast, R mbrb_receive. */
-#define MBRB_BAD_TABLE 1               /* [O B R] n not 1 to 64, or n <= 3t + 2d, or own >= n */
-#define MBRB_BUNDLE_LENGTH 2           /* [R]     the bundle has not 32 bytes */
-#define MBRB_RESERVED_BYTES 3          /* [R]     byte 6 or 7 of the bundle is not zero */
-#define MBRB_OTHER_DAY 4               /* [R]     the bundle is of another day */
-#define MBRB_SENDER_RANGE 5            /* [R]     its sender is n or above */
-#define MBRB_NUMBER_RANGE 6            /* [R]     its number is above 15 */
-#define MBRB_SIGNER_RANGE 7            /* [R]     it has a signer at n or above */
-#define MBRB_SENDER_UNSIGNED 8         /* [R]     its sender has not signed it */
-#define MBRB_BODY_LENGTH 9             /* [B]     the body has not 16 bytes */
-#define MBRB_OUT_LENGTH 10             /* [B R]   `out` has not 32 bytes */
-#define MBRB_RECORDS_LENGTH 20         /* [O B R] `records` has not MBRB_RECORDS_SIZE(n) bytes */
-#define MBRB_UNSOUND_RECORD 21         /* [B R]   the slot's record, or one of ours before the first free one, is none
-                                                  that these calls leave: section 8 */
-#define MBRB_ALREADY_DELIVERED 22      /* [R]     the slot is delivered already; this is usual, and nothing is wrong */
-#define MBRB_OWN_SIGNATURE_UNKNOWN 23  /* [R]     it has our signature, yet our record does not hold its body: section 8 */
-#define MBRB_OTHER_BODY 24             /* [R]     another body is held, and fewer than a quorum signed this one: its
-                                                  sender said two things */
-#define MBRB_NO_FREE_NUMBER 25         /* [B]     our sixteen numbers of the day are used up */
+ * O mbrb_open, B mbrb_broadcast, R mbrb_receive, P mbrb_preview. */
+#define MBRB_BAD_TABLE 1               /* [O B R P] n not 1 to 64, or n <= 3t + 2d, or own >= n */
+#define MBRB_BUNDLE_LENGTH 2           /* [R P]     the bundle has not 32 bytes */
+#define MBRB_RESERVED_BYTES 3          /* [R P]     byte 6 or 7 of the bundle is not zero */
+#define MBRB_OTHER_DAY 4               /* [R P]     the bundle is of another day */
+#define MBRB_SENDER_RANGE 5            /* [R P]     its sender is n or above */
+#define MBRB_NUMBER_RANGE 6            /* [R P]     its number is above 15 */
+#define MBRB_SIGNER_RANGE 7            /* [R P]     it has a signer at n or above */
+#define MBRB_SENDER_UNSIGNED 8         /* [R P]     its sender has not signed it */
+#define MBRB_BODY_LENGTH 9             /* [B]       the body has not 16 bytes */
+#define MBRB_OUT_LENGTH 10             /* [B R P]   `out` has not 32 bytes */
+#define MBRB_RECORDS_LENGTH 20         /* [O B R P] `records` has not MBRB_RECORDS_SIZE(n) bytes */
+#define MBRB_UNSOUND_RECORD 21         /* [B R P]   the slot's record, or one of ours before the first free one, is none
+                                                    that these calls leave: section 8 */
+#define MBRB_ALREADY_DELIVERED 22      /* [R P]     the slot is delivered already; this is usual, nothing is wrong */
+#define MBRB_OWN_SIGNATURE_UNKNOWN 23  /* [R P]     it has our signature, yet our record does not hold its body:
+                                                    section 8 */
+#define MBRB_OTHER_BODY 24             /* [R P]     another body is held, and fewer than a quorum signed this one: its
+                                                    sender said two things */
+#define MBRB_NO_FREE_NUMBER 25         /* [B]       our sixteen numbers of the day are used up */
 
 /* Opens a day: sets every byte of the records to zero. Once for a day, before its first call, and not again after a
  * restart (sections 4 and 5). The day has no part in the bytes: keep it beside them. */
@@ -302,6 +340,13 @@ uint32_t mbrb_broadcast(uint8_t n, uint8_t t, uint8_t d, uint8_t own, uint32_t d
 uint32_t mbrb_receive(uint8_t n, uint8_t t, uint8_t d, uint8_t own, uint32_t day,
                       const uint8_t *bundle, size_t bundle_len,
                       uint8_t *records, size_t records_len,
+                      uint8_t *out, size_t out_len);
+
+/* For a display: tells by code and `out` what mbrb_receive would do with the same arguments, and does not do it. The
+ * records stay as they are, and nothing of it is sent, signed for, saved or acted on (section 12). */
+uint32_t mbrb_preview(uint8_t n, uint8_t t, uint8_t d, uint8_t own, uint32_t day,
+                      const uint8_t *bundle, size_t bundle_len,
+                      const uint8_t *records, size_t records_len,
                       uint8_t *out, size_t out_len);
 
 #ifdef __cplusplus

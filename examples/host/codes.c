@@ -1,5 +1,6 @@
-/* Every code of include/mbrb.h, provoked once: its number and name as the header has them, and what the call gave. Then what the
- * header says of places and bytes, and what happens to a host that gives yesterday's records today's day.
+/* Every code of include/mbrb.h, provoked once: its number and name as the header has them, and what the call gave. Each bundle is
+ * previewed before it is taken. Then what the header says of places and bytes, and what happens to a host that gives yesterday's records
+ * today's day.
  *
  * Four units, of which one may be faulty; we are unit 1, on day 7. A quorum is 3. Each call starts from the records that its line needs.
  */
@@ -16,6 +17,7 @@ static uint8_t bundle[MBRB_BUNDLE_SIZE];
 static uint8_t body[MBRB_BODY_SIZE];
 static uint8_t out[MBRB_BUNDLE_SIZE];
 static int differ;
+static uint8_t previewed[MBRB_DELIVERED + 1]; /* the codes that a preview gave, and then taking */
 
 static void told(const char *name, uint32_t expected, uint32_t code)
 {
@@ -39,9 +41,32 @@ static uint32_t announce_with(uint8_t own, size_t body_len, size_t records_len, 
     return mbrb_broadcast(UNITS, 1, 0, own, 7, body, body_len, records, records_len, out, out_len);
 }
 
+/* A preview comes first, on the same buffers but for its `out`. */
+static uint32_t take_by(uint8_t n, uint8_t t, uint8_t d, uint8_t own, uint32_t day, size_t bundle_len, size_t records_len, size_t out_len)
+{
+    uint8_t before[sizeof records], shown[sizeof out];
+    uint32_t preview, code;
+
+    memcpy(before, records, sizeof records);
+    memcpy(shown, out, sizeof out);
+    preview = mbrb_preview(n, t, d, own, day, bundle, bundle_len, records, records_len, shown, out_len);
+    if (memcmp(records, before, sizeof records) != 0) {
+        puts("    the preview wrote to the records");
+        differ = 1;
+    }
+    code = mbrb_receive(n, t, d, own, day, bundle, bundle_len, records, records_len, out, out_len);
+    if (preview != code || memcmp(shown, out, sizeof out) != 0) {
+        printf("    the preview gave %" PRIu32 " and taking %" PRIu32 ", or `out` differs\n", preview, code);
+        differ = 1;
+    } else if (code < sizeof previewed) {
+        previewed[code] = 1;
+    }
+    return code;
+}
+
 static uint32_t take_with(uint8_t own, size_t bundle_len, size_t records_len, size_t out_len)
 {
-    return mbrb_receive(UNITS, 1, 0, own, 7, bundle, bundle_len, records, records_len, out, out_len);
+    return take_by(UNITS, 1, 0, own, 7, bundle_len, records_len, out_len);
 }
 
 static uint32_t announce(void)
@@ -139,6 +164,18 @@ static void done(void)
     TOLD(MBRB_BAD_TABLE, mbrb_open(3, 1, 0, 1, 7, records, MBRB_RECORDS_SIZE(3)));
     TOLD(MBRB_ANNOUNCED(0), mbrb_broadcast(3, 0, 1, 1, 7, body, sizeof body, records, MBRB_RECORDS_SIZE(3), out, sizeof out));
     TOLD(MBRB_BAD_TABLE, mbrb_broadcast(3, 1, 0, 1, 7, body, sizeof body, records, MBRB_RECORDS_SIZE(3), out, sizeof out));
+    bring(1, 'a');
+    TOLD(MBRB_DELIVERED, take_by(3, 0, 1, 1, 7, sizeof bundle, MBRB_RECORDS_SIZE(3), sizeof out));
+    TOLD(MBRB_BAD_TABLE, take_by(3, 1, 0, 1, 7, sizeof bundle, MBRB_RECORDS_SIZE(3), sizeof out));
+}
+
+static void previews(void)
+{
+    printf("previewed with the code and the `out` of taking, and with untouched records:");
+    for (size_t code = 0; code < sizeof previewed; code++)
+        if (previewed[code])
+            printf(" %d", (int)code);
+    putchar('\n');
 }
 
 /* How many bytes of the records are not zero. */
@@ -186,7 +223,7 @@ static uint32_t take_on_day_8(uint8_t number, unsigned signers, char text)
     bring(signers, text);
     bundle[MBRB_DAY_AT + 3] = 8;
     bundle[MBRB_NUMBER_AT] = number;
-    return mbrb_receive(UNITS, 1, 0, 1, 8, bundle, sizeof bundle, records, sizeof records, out, sizeof out);
+    return take_by(UNITS, 1, 0, 1, 8, sizeof bundle, sizeof records, sizeof out);
 }
 
 /* Yesterday number 0 was delivered, and number 1 signed. Today both come again, and we sign neither: number 0 is refused, and number 1
@@ -210,6 +247,7 @@ int main(void)
     refused_from_the_input();
     refused_from_the_state();
     done();
+    previews();
     places();
     macros();
     yesterday();

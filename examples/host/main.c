@@ -1,7 +1,7 @@
 /* Four units of a cascade in one program, over a radio that is played from a list. Unit 3 is faulty: it says two things in one slot. Unit 2
- * loses power between a call and its sending, and restarts. In the end a new day begins.
+ * loses power between a call and its sending, and restarts; an installer then looks at its display. In the end a new day begins.
  *
- * The first half is to copy: open_day, announce, take, restart and show face the library. The second half stands in for a unit's
+ * The first half is to copy: open_day, announce, take, restart, show and preview face the library. The second half stands in for a unit's
  * hardware, the radio, the key chip and the clock, and for the faulty unit. README.md says more; sections are those of include/mbrb.h.
  */
 #include "mbrb.h"
@@ -42,6 +42,7 @@ static uint32_t clock_day(void);
 static bool power_fails(const struct unit *unit);
 
 static void print_slot(uint8_t sender, uint32_t number, const uint8_t *body);
+static void print_signers(const uint8_t *bundle);
 static void print_bundle(const uint8_t *arrived, const uint8_t *checked);
 
 /* ---- A sound unit: the parts to copy */
@@ -226,6 +227,30 @@ static void show(const struct unit *unit)
         }
 }
 
+/* Section 12: for a display, what a waiting bundle would do if it were taken now. The unit stays as it is, and `out` is the display's: nothing of
+ * it is saved, sent or acted on. What a code asks for is done by take, when it gives it. */
+static void preview(const struct unit *unit, const uint8_t *arrived)
+{
+    uint8_t bundle[MBRB_BUNDLE_SIZE], out[MBRB_BUNDLE_SIZE];
+    uint32_t code;
+
+    if (unit->now.stopped || clock_day() > unit->now.day)
+        return; /* take makes no call, or opens a new day first */
+    memcpy(bundle, arrived, sizeof bundle);
+    check_signatures(bundle);
+    code = mbrb_preview(UNITS, FAULTS, LOSSES, unit->own, unit->now.day, bundle, sizeof bundle,
+                        unit->now.records, sizeof unit->now.records, out, sizeof out);
+
+    printf("unit %d shows ", unit->own);
+    print_bundle(arrived, bundle);
+    printf(": %" PRIu32 " would be %s", code, in_words(code));
+    if (code == MBRB_SIGNED || code == MBRB_DELIVERED) {
+        printf(", then");
+        print_signers(out);
+    }
+    putchar('\n');
+}
+
 /* ---- The clock, the power, the radio and the key chip, simulated */
 
 static uint32_t day_of_clock = 7;
@@ -308,13 +333,18 @@ static void print_slot(uint8_t sender, uint32_t number, const uint8_t *body)
     printf("%d/%" PRIu32 " \"%.*s\"", sender, number, MBRB_BODY_SIZE, (const char *)body);
 }
 
+static void print_signers(const uint8_t *bundle)
+{
+    printf(" signed by");
+    for (uint8_t u = 0; u < UNITS; u++)
+        if (has_signed(bundle, u))
+            printf(" %d", u);
+}
+
 static void print_bundle(const uint8_t *arrived, const uint8_t *checked)
 {
     print_slot(arrived[MBRB_SENDER_AT], arrived[MBRB_NUMBER_AT], arrived + MBRB_BODY_AT);
-    printf(" signed by");
-    for (uint8_t u = 0; u < UNITS; u++)
-        if (has_signed(checked, u))
-            printf(" %d", u);
+    print_signers(checked);
     for (uint8_t u = 0; u < UNITS; u++)
         if (has_signed(arrived, u) && !has_signed(checked, u))
             printf(", not by %d", u);
@@ -369,6 +399,7 @@ static const struct {
 };
 
 #define LOSES_POWER 8 /* the place in the list above at which unit 2 loses power, and all that was not saved */
+#define LOOKED_AT 9   /* the place of the bundle that an installer sees waiting there, on the display of unit 2 */
 
 int main(void)
 {
@@ -391,6 +422,8 @@ int main(void)
             hear(bundle);
             continue;
         }
+        if (i == LOOKED_AT)
+            preview(unit, bundle);
         without_power = i == LOSES_POWER ? unit : NULL;
         take(unit, bundle);
         if (i == LOSES_POWER) {
