@@ -118,7 +118,7 @@ pub fn receive(config: &Config, bundle: &[u8], records: &mut [u8], out: &mut [u8
 /// Previews a bundle: the code that taking it would give.
 #[inline]
 pub fn preview(config: &Config, bundle: &[u8], records: &[u8], out: &mut [u8]) -> u32 {
-    // SAFETY: as for `open`. The records are read alone: the contract leaves them no right to be written, and the declaration neither.
+    // SAFETY: as for `open`. The function does not write the records, so a shared slice is enough.
     unsafe {
         mbrb_preview(
             config.n,
