@@ -40,6 +40,19 @@ extern "C" {
         out: *mut u8,
         out_len: usize,
     ) -> u32;
+    fn mbrb_preview(
+        n: u8,
+        t: u8,
+        d: u8,
+        own: u8,
+        day: u32,
+        bundle: *const u8,
+        bundle_len: usize,
+        records: *const u8,
+        records_len: usize,
+        out: *mut u8,
+        out_len: usize,
+    ) -> u32;
 }
 
 /// Opens a day: the host's code of the answer.
@@ -95,6 +108,27 @@ pub fn receive(config: &Config, bundle: &[u8], records: &mut [u8], out: &mut [u8
             bundle.as_ptr(),
             bundle.len(),
             records.as_mut_ptr(),
+            records.len(),
+            out.as_mut_ptr(),
+            out.len(),
+        )
+    }
+}
+
+/// Previews a bundle: the code that taking it would give.
+#[inline]
+pub fn preview(config: &Config, bundle: &[u8], records: &[u8], out: &mut [u8]) -> u32 {
+    // SAFETY: as for `open`. The function does not write the records, so a shared slice is enough.
+    unsafe {
+        mbrb_preview(
+            config.n,
+            config.t,
+            config.d,
+            config.own,
+            config.day,
+            bundle.as_ptr(),
+            bundle.len(),
+            records.as_ptr(),
             records.len(),
             out.as_mut_ptr(),
             out.len(),

@@ -1,4 +1,4 @@
-//! Opening, broadcast and receive, written from the papers alone, to be compared with the proved functions.
+//! Opening, broadcast, receive and its preview, written from the papers alone, to be compared with the proved functions.
 //!
 //! Every check comes before the first store, so a refusal changes no byte.
 
@@ -32,12 +32,24 @@ impl Refusal {
     }
 }
 
-/// The answer of `receive`, with the count of signers in the record afterwards.
+/// The answer of `receive`, with the count of signers in the record afterwards; from `preview`,
+/// what they would be.
 #[derive(Clone, Copy, Debug, PartialEq, Eq)]
 pub enum Receipt {
     Kept(u32),
     Signed(u32),
     Delivered(u32),
+}
+
+impl Receipt {
+    /// What a C host gets for it.
+    pub fn code(self) -> u32 {
+        match self {
+            Receipt::Kept(_) => 100,
+            Receipt::Signed(_) => 101,
+            Receipt::Delivered(_) => 102,
+        }
+    }
 }
 
 impl Config {
@@ -262,19 +274,30 @@ pub fn broadcast(
     Ok(seq)
 }
 
-/// Takes the bundle into its slot's record. Signed or delivered, the bundle to send is in `out`;
-/// at kept `out` stays as it is. The rules: taking.
-pub fn receive(
+/// What a bundle comes to on its slot's record.
+struct Outcome {
+    receipt: Receipt,
+    /// where the record starts
+    place: usize,
+    /// the record afterwards
+    record: Record,
+}
+
+/// All of taking but the store: the checks, the answer and the outgoing bytes.
+// Inlined into both callers, it costs `preview` no record, and `receive` no second look for the slot.
+#[inline(always)]
+fn foresee(
     config: &Config,
     bundle: &[u8],
-    records: &mut [u8],
+    records: &[u8],
     out: &mut [u8],
-) -> Result<Receipt, Refusal> {
+) -> Result<Outcome, Refusal> {
     let bundle = Bundle::read(config, bundle)?;
     let out = out.try_into().map_err(|_| Refusal::OutLength)?;
     let complete = records.len() == config.records_length();
     require(complete, Refusal::RecordsLength)?;
-    let (from_slot, _) = records[config.place(bundle.sender, bundle.seq)..].as_chunks_mut();
+    let place = config.place(bundle.sender, bundle.seq);
+    let (from_slot, _) = records[place..].as_chunks();
     let before = Record::read(config, bundle.sender, &from_slot[0])?;
     let signers = before.signers_with(config, &bundle)?;
     let count = signers.count_ones();
@@ -286,16 +309,44 @@ pub fn receive(
         (State::Held, Receipt::Kept(count))
     };
     let payload = bundle.payload;
-    Record {
-        state,
-        signers,
-        payload,
-    }
-    .store(&mut from_slot[0]);
     if !matches!(receipt, Receipt::Kept(_)) {
         Bundle { signers, ..bundle }.write(config.day, out);
     }
-    Ok(receipt)
+    let record = Record {
+        state,
+        signers,
+        payload,
+    };
+    Ok(Outcome {
+        receipt,
+        place,
+        record,
+    })
+}
+
+/// Takes the bundle into its slot's record. Signed or delivered, the bundle to send is in `out`;
+/// at kept `out` stays as it is. The rules: taking.
+pub fn receive(
+    config: &Config,
+    bundle: &[u8],
+    records: &mut [u8],
+    out: &mut [u8],
+) -> Result<Receipt, Refusal> {
+    let outcome = foresee(config, bundle, records, out)?;
+    let (from_slot, _) = records[outcome.place..].as_chunks_mut();
+    outcome.record.store(&mut from_slot[0]);
+    Ok(outcome.receipt)
+}
+
+/// Answers as `receive` would on a copy of the records, and leaves `out` as that would. The rules:
+/// a preview.
+pub fn preview(
+    config: &Config,
+    bundle: &[u8],
+    records: &[u8],
+    out: &mut [u8],
+) -> Result<Receipt, Refusal> {
+    foresee(config, bundle, records, out).map(|outcome| outcome.receipt)
 }
 
 /// `open` for a C host: the refusal's number, or 0.
@@ -314,14 +365,14 @@ pub fn broadcast_code(config: &Config, payload: &[u8], records: &mut [u8], out: 
     }
 }
 
-/// `receive` for a C host: 100 for kept, 101 for signed, 102 for delivered, or the refusal's number.
+/// `receive` for a C host: the refusal's number, or the receipt's code.
 pub fn receive_code(config: &Config, bundle: &[u8], records: &mut [u8], out: &mut [u8]) -> u32 {
-    match receive(config, bundle, records, out) {
-        Ok(Receipt::Kept(_)) => 100,
-        Ok(Receipt::Signed(_)) => 101,
-        Ok(Receipt::Delivered(_)) => 102,
-        Err(refusal) => refusal.number(),
-    }
+    receive(config, bundle, records, out).map_or_else(Refusal::number, Receipt::code)
+}
+
+/// `preview` for a C host: the refusal's number, or the receipt's code.
+pub fn preview_code(config: &Config, bundle: &[u8], records: &[u8], out: &mut [u8]) -> u32 {
+    preview(config, bundle, records, out).map_or_else(Refusal::number, Receipt::code)
 }
 
 #[cfg(test)]
@@ -351,13 +402,15 @@ mod tests {
         bytes([state, 0, 0, 0, 0, 0, 0, 0], signers, payload)
     }
 
-    /// Receives at node 1 of 4, 1, 0, whose record of the slot is `before`; gives the code, the
-    /// record afterwards and the outgoing bytes.
+    /// Receives at node 1 of 4, 1, 0, whose record of the slot is `before`, after a preview with the
+    /// same outcome; gives the code, the record afterwards and the outgoing bytes.
     fn receive_on(before: [u8; 32], bundle: [u8; 32]) -> (u32, [u8; 32], [u8; 32]) {
-        let (mut records, mut out) = ([[0; 32]; 64], UNSENT);
+        let (config, mut records, mut out) = (config(4, 1, 0, 1), [[0; 32]; 64], UNSENT);
         records[0] = before;
-        let records_bytes = records.as_flattened_mut();
-        let code = receive_code(&config(4, 1, 0, 1), &bundle, records_bytes, &mut out);
+        let mut foreseen = UNSENT;
+        let previewed = preview_code(&config, &bundle, records.as_flattened(), &mut foreseen);
+        let code = receive_code(&config, &bundle, records.as_flattened_mut(), &mut out);
+        assert_eq!((previewed, foreseen), (code, out));
         assert_eq!(records[1..], [[0; 32]; 63]);
         (code, records[0], out)
     }
@@ -403,9 +456,12 @@ mod tests {
             (0, 7, Ok(Receipt::Delivered(3)), bundle(7, PAYLOAD)),
         ];
         for (node, signers, answer, sent) in steps {
-            let (config, mut out) = (config(4, 1, 0, node), UNSENT);
+            let (config, bundle) = (config(4, 1, 0, node), bundle(signers, PAYLOAD));
             let records = &mut records[usize::from(node)];
-            let received = receive(&config, &bundle(signers, PAYLOAD), records, &mut out);
+            let [mut foreseen, mut out] = [UNSENT; 2];
+            let previewed = preview(&config, &bundle, records, &mut foreseen);
+            let received = receive(&config, &bundle, records, &mut out);
+            assert_eq!((previewed, foreseen), (answer, sent));
             assert_eq!((received, out), (answer, sent));
         }
         let (held, delivered) = (record(1, 3, PAYLOAD), record(2, 7, PAYLOAD));
@@ -429,6 +485,45 @@ mod tests {
     }
 
     #[test]
+    fn a_preview_answers_for_each_kind_of_record() {
+        let (empty, malformed) = ([0; 32], record(3, 3, PAYLOAD));
+        let (held, delivered) = (record(1, 3, PAYLOAD), record(2, 7, PAYLOAD));
+        let at_odds = Err(Refusal::OwnSignatureNotHeld);
+        let too_few = Err(Refusal::OtherPayloadWithoutQuorum);
+        // The record, the bundle's signers and payload, the answer, and the signers of the bundle put out.
+        let rows = [
+            (empty, 1, PAYLOAD, Ok(Receipt::Signed(2)), Some(3)),
+            (empty, 5, PAYLOAD, Ok(Receipt::Delivered(3)), Some(7)),
+            (empty, 3, PAYLOAD, at_odds, None),
+            (held, 1, PAYLOAD, Ok(Receipt::Kept(2)), None),
+            (held, 9, PAYLOAD, Ok(Receipt::Delivered(3)), Some(11)),
+            (held, 13, OTHER, Ok(Receipt::Delivered(3)), Some(13)),
+            (held, 15, OTHER, at_odds, None),
+            (held, 5, OTHER, too_few, None),
+            (delivered, 7, PAYLOAD, Err(Refusal::AlreadyDelivered), None),
+            (malformed, 1, PAYLOAD, Err(Refusal::RecordMalformed), None),
+        ];
+        for (before, signers, payload, answer, sent) in rows {
+            let (mut records, mut out) = ([0; 2048], UNSENT);
+            records[..32].copy_from_slice(&before);
+            let bundle_given = bundle(signers, payload);
+            let previewed = preview(&config(4, 1, 0, 1), &bundle_given, &records, &mut out);
+            let sent = sent.map_or(UNSENT, |signers| bundle(signers, payload));
+            assert_eq!((previewed, out), (answer, sent));
+        }
+    }
+
+    #[test]
+    fn a_preview_takes_nothing() {
+        let (config, records, bundle) = (config(4, 1, 0, 1), [0; 2048], bundle(1, PAYLOAD));
+        // Taken the first time, the bundle would be kept the second time.
+        for _ in 0..2 {
+            let previewed = preview(&config, &bundle, &records, &mut [0; 32]);
+            assert_eq!(previewed, Ok(Receipt::Signed(2)));
+        }
+    }
+
+    #[test]
     fn wrong_configs_and_lengths_are_refused_in_order() {
         let (good, bad) = (config(4, 1, 0, 1), config(5, 1, 1, 1));
         // Defects add up from row to row: the code is the first of them.
@@ -443,6 +538,7 @@ mod tests {
             let (buffer, out_buffer) = (&mut records[..length], &mut out[..out_length]);
             let bundle = &bundle(1, PAYLOAD)[..bundle_length];
             assert_eq!(receive_code(&config, bundle, buffer, out_buffer), received);
+            assert_eq!(preview_code(&config, bundle, buffer, out_buffer), received);
             let payload = &PAYLOAD[..payload_length];
             assert_eq!(broadcast_code(&config, payload, buffer, out_buffer), sent);
             assert_eq!((records, out), ([0; 2048], UNSENT));

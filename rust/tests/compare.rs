@@ -1,7 +1,8 @@
-//! The exported functions beside the reference: code, records and outgoing bytes of each call, on calls made from a seed.
+//! The exported functions beside the reference: code, records and outgoing bytes of each call, on calls made from a seed. A preview is
+//! compared besides with taking on a copy of the records, by each of the two, and the records have to stay.
 //!
-//! `MBRB_CALLS` sets how many calls, `MBRB_SEED` another seed, both decimal. With fewer than a hundred thousand calls some code, record
-//! or n may be too rare, and the test fails for that.
+//! `MBRB_CALLS` sets how many calls, `MBRB_SEED` another seed, both decimal. With fewer than three hundred thousand calls some code,
+//! record or n may be too rare, and the test fails for that.
 
 #[path = "compare/arena.rs"]
 mod arena;
@@ -18,10 +19,10 @@ mod system;
 #[path = "compare/tally.rs"]
 mod tally;
 
-use arena::{bundle, Arena};
-use comparison::{call_both, Difference, Implementation, Kind, HOST, REFERENCE};
+use arena::{bundle, Arena, CONFIG, CONSTANT};
+use comparison::{call_both, Call, Difference, Implementation, Kind, HOST, REFERENCE};
 use mbrb::random::Random;
-use mbrb::{reference, setting, Config};
+use mbrb::{host, reference, setting, Config};
 use system::System;
 use tally::Tally;
 
@@ -63,7 +64,8 @@ fn step(
         node.forget();
     }
     tally.lives += u64::from(node.completes_life(&case, code));
-    if code > 100 {
+    // Nothing of a preview is sent.
+    if code > 100 && case.kind != Kind::Preview {
         system.keep_sent(random, &out);
     }
     Ok(())
@@ -99,6 +101,9 @@ fn buffers_may_start_anywhere_and_nothing_around_them_changes() {
         assert_eq!(at(Kind::Receive, &bundle(1)), 101);
         assert_eq!(at(Kind::Receive, &bundle(1 | 4)), 102);
         assert_eq!(at(Kind::Receive, &bundle(4)), 8);
+        assert_eq!(at(Kind::Preview, &bundle(1)), 101);
+        assert_eq!(at(Kind::Preview, &bundle(1 | 4)), 102);
+        assert_eq!(at(Kind::Preview, &bundle(4)), 8);
     }
 }
 
@@ -107,26 +112,48 @@ fn a_length_counts_in_full() {
     for more in [0x100, 0x1_0000, 0x100_0000] {
         let open = |lengths| codes_in_arenas(0, Kind::Open, lengths, &[]);
         let broadcast = |lengths| codes_in_arenas(0, Kind::Broadcast, lengths, &[b'a'; 16]);
-        let receive = |lengths| codes_in_arenas(0, Kind::Receive, lengths, &bundle(1));
         assert_eq!(open([0, 2048 + more, 32]), 20);
         assert_eq!(broadcast([16 + more, 2048, 32]), 9);
         assert_eq!(broadcast([16, 2048, 32 + more]), 10);
         assert_eq!(broadcast([16, 2048 + more, 32]), 20);
-        assert_eq!(receive([32 + more, 2048, 32]), 2);
-        assert_eq!(receive([32, 2048, 32 + more]), 10);
-        assert_eq!(receive([32, 2048 + more, 32]), 20);
+        for kind in [Kind::Receive, Kind::Preview] {
+            let take = |lengths| codes_in_arenas(0, kind, lengths, &bundle(1));
+            assert_eq!(take([32 + more, 2048, 32]), 2);
+            assert_eq!(take([32, 2048, 32 + more]), 10);
+            assert_eq!(take([32, 2048 + more, 32]), 20);
+        }
     }
 }
 
-/// What the comparison says of an implementation that is the reference but for one thing. Repeating the calls before shows no
-/// difference, so what is said is about the call named.
+#[test]
+fn a_preview_needs_no_records_that_can_be_written() {
+    let code = |seq, signers| {
+        let mut bundle = bundle(signers);
+        bundle[5] = seq;
+        host::preview(&CONFIG, &bundle, CONSTANT.as_flattened(), &mut [0; 32])
+    };
+    assert_eq!([code(0, 1), code(0, 1 | 4)], [100, 102]);
+    assert_eq!([code(1, 1), code(1, 1 | 4)], [101, 102]);
+}
+
+/// What the comparison says of two implementations, from one seed after the other. Repeating the calls before shows no difference, so
+/// what is said is about the call named.
+fn differences(pair: [Implementation; 2]) -> impl Iterator<Item = Box<Difference>> {
+    (SEED..SEED + 20).map(move |seed| {
+        let difference = compare(seed, 100_000, &pair).err().expect("a difference");
+        assert!(compare(seed, difference.call - 1, &pair).is_ok());
+        let text = format!("{difference:?}");
+        assert!(text.starts_with(&format!("seed {seed}, call {}:", difference.call)));
+        difference
+    })
+}
+
+/// What it says of one that is the reference but for one thing, which is not its preview. A wrong receive shows at previews as well, since
+/// they are held to it; those are passed over.
 fn found(wrong: Implementation) -> Box<Difference> {
-    let pair = [REFERENCE, wrong];
-    let difference = compare(SEED, 100_000, &pair).err().expect("a difference");
-    assert!(compare(SEED, difference.call - 1, &pair).is_ok());
-    let text = format!("{difference:?}");
-    assert!(text.starts_with(&format!("seed {SEED}, call {}:", difference.call)));
-    difference
+    differences([REFERENCE, wrong])
+        .find(|difference| difference.case.kind != Kind::Preview)
+        .expect("a difference in a call that is no preview")
 }
 
 #[test]
@@ -222,4 +249,97 @@ fn a_bad_config_accepted_is_found() {
     });
     assert_eq!(difference.codes[0], 1);
     assert_ne!(difference.codes[1], 1);
+}
+
+/// What it says of a wrong preview: beside the reference's, and where both have it, so that only taking is right.
+fn found_previews(preview: Call) -> [Box<Difference>; 2] {
+    let wrong = Implementation {
+        preview,
+        ..REFERENCE
+    };
+    [REFERENCE, wrong].map(|beside| {
+        let difference = differences([beside, wrong]).next().expect("a seed");
+        assert_eq!(difference.case.kind, Kind::Preview);
+        difference
+    })
+}
+
+#[test]
+fn a_preview_that_stores_is_found() {
+    for difference in found_previews(reference::receive_code) {
+        assert!(difference.codes[0] >= 100);
+        assert_eq!(difference.codes[0], difference.codes[1]);
+        assert!(difference.records_differ() && !difference.outs_differ());
+    }
+}
+
+#[test]
+fn a_preview_that_puts_out_what_is_kept_is_found() {
+    let differences = found_previews(|config, bundle, records, out| {
+        let code = reference::preview_code(config, bundle, records, out);
+        if code == 100 {
+            out.copy_from_slice(bundle);
+        }
+        code
+    });
+    for difference in differences {
+        assert_eq!(difference.codes, [100, 100]);
+        assert!(!difference.records_differ() && difference.outs_differ());
+    }
+}
+
+#[test]
+fn a_preview_for_outgoing_bytes_of_any_length_is_found() {
+    let differences = found_previews(|config, bundle, records, out| {
+        let code = reference::preview_code(config, bundle, records, out);
+        if code == 10 {
+            reference::preview_code(config, bundle, records, &mut [0; 32])
+        } else {
+            code
+        }
+    });
+    for difference in differences {
+        assert_eq!(difference.codes[0], 10);
+        assert!(difference.codes[1] >= 20);
+        assert!(!difference.records_differ() && !difference.outs_differ());
+    }
+}
+
+#[test]
+fn a_preview_from_the_bundle_alone_is_found() {
+    let differences = found_previews(|config, bundle, records, out| {
+        let code = reference::preview_code(config, bundle, records, out);
+        if code != 100 {
+            return code;
+        }
+        // Signed as on a fresh day; what is refused there stays kept.
+        let fresh = vec![0; records.len()];
+        reference::preview_code(config, bundle, &fresh, out).max(code)
+    });
+    for difference in differences {
+        assert_eq!(difference.codes, [100, 101]);
+        assert!(!difference.records_differ() && difference.outs_differ());
+    }
+}
+
+#[test]
+fn a_preview_is_held_to_the_taking_of_each() {
+    let wrong = Implementation {
+        receive: |config, bundle, records, out| {
+            let code = reference::receive_code(config, bundle, records, out);
+            if code == 101 {
+                100
+            } else {
+                code
+            }
+        },
+        ..REFERENCE
+    };
+    for pair in [[REFERENCE, wrong], [wrong, REFERENCE]] {
+        let difference = differences(pair)
+            .find(|difference| difference.case.kind == Kind::Preview)
+            .expect("a difference in a preview");
+        assert_eq!(difference.codes, [100, 101]);
+        assert!(!difference.records_differ() && !difference.outs_differ());
+    }
 }

@@ -57,6 +57,23 @@ fn reference_receive(
     reference::receive_code(&config, bundle, records, out)
 }
 
+#[no_mangle]
+#[inline(never)]
+#[allow(clippy::too_many_arguments)]
+fn reference_preview(
+    n: u8,
+    t: u8,
+    d: u8,
+    own: u8,
+    day: u32,
+    bundle: &[u8],
+    records: &[u8],
+    out: &mut [u8],
+) -> u32 {
+    let config = Config { n, t, d, own, day };
+    reference::preview_code(&config, bundle, records, out)
+}
+
 #[derive(Clone, Copy)]
 enum Side {
     Proved,
@@ -70,9 +87,18 @@ struct Ready {
     buffer: usize,
 }
 
-/// Calls that all have the same code, and the buffers as they find them.
+#[derive(Clone, Copy, PartialEq, Eq)]
+enum Kind {
+    Open,
+    Broadcast,
+    Receive,
+    Preview,
+}
+
+/// Calls of one kind that all have the same code, and the buffers as they find them.
 struct Row {
-    name: &'static str,
+    name: String,
+    kind: Kind,
     n: u8,
     code: u32,
     calls: Vec<Ready>,
@@ -129,8 +155,9 @@ fn record(config: &Config, sender: u8, found: Found, payload: &[u8; 16]) -> Vec<
     [&head[..], &set.to_be_bytes(), payload].concat()
 }
 
-/// Bundles received, one for each slot of the other senders: what they find, how many signers they bring, and what is answered.
-fn receives(name: &'static str, n: u8, found: Found, brought: u32, code: u32) -> Row {
+/// Bundles received or previewed, one for each slot of the other senders: what they find, how many signers they bring, and what is
+/// answered.
+fn bundles(kind: Kind, name: String, n: u8, found: Found, brought: u32, code: u32) -> Row {
     let mut random = Random::new(1);
     let config = config_of(n, 1);
     let (mut calls, mut buffers) = (Vec::new(), Vec::new());
@@ -154,6 +181,7 @@ fn receives(name: &'static str, n: u8, found: Found, brought: u32, code: u32) ->
     }
     Row {
         name,
+        kind,
         n,
         code,
         calls,
@@ -162,7 +190,7 @@ fn receives(name: &'static str, n: u8, found: Found, brought: u32, code: u32) ->
 }
 
 /// Payloads broadcast, one by each node, with so many numbers used already.
-fn broadcasts(name: &'static str, n: u8, used: u8) -> Row {
+fn broadcasts(name: &str, n: u8, used: u8) -> Row {
     let mut random = Random::new(2);
     let (mut calls, mut buffers) = (Vec::new(), Vec::new());
     while calls.len() < CALLS {
@@ -187,7 +215,8 @@ fn broadcasts(name: &'static str, n: u8, used: u8) -> Row {
     }
     let code = 200 + u32::from(used);
     Row {
-        name,
+        name: name.to_string(),
+        kind: Kind::Broadcast,
         n,
         code,
         calls,
@@ -196,7 +225,7 @@ fn broadcasts(name: &'static str, n: u8, used: u8) -> Row {
 }
 
 /// Days opened, each on a buffer of any bytes.
-fn openings(name: &'static str, n: u8) -> Row {
+fn openings(name: &str, n: u8) -> Row {
     let mut random = Random::new(3);
     let config = config_of(n, 1);
     // Together they have 512 KiB, whichever n.
@@ -215,7 +244,8 @@ fn openings(name: &'static str, n: u8) -> Row {
         })
         .collect();
     Row {
-        name,
+        name: name.to_string(),
+        kind: Kind::Open,
         n,
         code: 0,
         calls,
@@ -223,44 +253,36 @@ fn openings(name: &'static str, n: u8) -> Row {
     }
 }
 
+/// Each answer that a bundle gets often.
+fn answers(kind: Kind, call: &str, n: u8) -> impl Iterator<Item = Row> + '_ {
+    let quorum = config_of(n, 1).quorum();
+    [
+        ("kept", Found::Held(2), 1, 100),
+        ("signed", Found::Empty, 1, 101),
+        ("delivered", Found::Held(quorum - 1), quorum - 1, 102),
+        ("22", Found::Delivered(quorum), quorum, 22),
+    ]
+    .into_iter()
+    .map(move |(answer, found, brought, code)| {
+        bundles(kind, format!("{call}: {answer}"), n, found, brought, code)
+    })
+}
+
 fn rows() -> Vec<Row> {
     let rows_of = |n| {
-        let quorum = config_of(n, 1).quorum();
-        [
-            openings("opening", n),
-            receives("taking: kept", n, Found::Held(2), 1, 100),
-            receives("taking: signed", n, Found::Empty, 1, 101),
-            receives(
-                "taking: delivered",
-                n,
-                Found::Held(quorum - 1),
-                quorum - 1,
-                102,
-            ),
-            receives("taking: 22", n, Found::Delivered(quorum), quorum, 22),
+        let announcing = [
             broadcasts("announcing: fresh day", n, 0),
             broadcasts("announcing: number 15", n, 15),
-        ]
+        ];
+        std::iter::once(openings("opening", n))
+            .chain(answers(Kind::Receive, "taking", n))
+            .chain(answers(Kind::Preview, "preview", n))
+            .chain(announcing)
     };
     [4, 64].into_iter().flat_map(rows_of).collect()
 }
 
-#[derive(Clone, Copy)]
-enum Kind {
-    Open,
-    Broadcast,
-    Receive,
-}
-
 impl Row {
-    fn kind(&self) -> Kind {
-        match self.code {
-            0 => Kind::Open,
-            200.. => Kind::Broadcast,
-            _ => Kind::Receive,
-        }
-    }
-
     /// Every call of the row once.
     fn run(
         &self,
@@ -296,22 +318,26 @@ impl Row {
         }
         let open_by_numbers =
             |c: &Config, records: &mut [u8]| reference_open(c.n, c.t, c.d, c.own, c.day, records);
-        match (side, self.kind()) {
+        match (side, self.kind) {
             (Side::Proved, Kind::Open) => each!(without_input!(host::open)),
             (Side::Proved, Kind::Broadcast) => each!(host::broadcast),
             (Side::Proved, Kind::Receive) => each!(host::receive),
+            (Side::Proved, Kind::Preview) => each!(host::preview),
             (Side::Reference, Kind::Open) => each!(without_input!(open_by_numbers)),
             (Side::Reference, Kind::Broadcast) => each!(by_numbers!(reference_broadcast)),
             (Side::Reference, Kind::Receive) => each!(by_numbers!(reference_receive)),
+            (Side::Reference, Kind::Preview) => each!(by_numbers!(reference_preview)),
         }
     }
 
-    /// The codes are what the row says.
+    /// The codes are what the row says, and previews leave the buffers as they were.
     fn check(&self, side: Side) {
         let mut buffers = self.buffers.clone();
         self.run(side, &mut buffers, &mut [0; 32], |code| {
             assert_eq!(code, self.code, "{}, n = {}", self.name, self.n);
         });
+        let written = self.kind == Kind::Preview && buffers != self.buffers;
+        assert!(!written, "{}, n = {}: a record changed", self.name, self.n);
     }
 
     /// Nanoseconds of a call. The buffers are made anew first, outside the measured time.
@@ -340,13 +366,15 @@ impl Row {
 
     /// Instructions of a call, counted in a run of this program that makes the row's calls once.
     fn instructions(&self, number: usize, side: Side) -> Option<f64> {
-        let (who, function) = match (side, self.kind()) {
+        let (who, function) = match (side, self.kind) {
             (Side::Proved, Kind::Open) => ("proved", "mbrb_open"),
             (Side::Proved, Kind::Broadcast) => ("proved", "mbrb_broadcast"),
             (Side::Proved, Kind::Receive) => ("proved", "mbrb_receive"),
+            (Side::Proved, Kind::Preview) => ("proved", "mbrb_preview"),
             (Side::Reference, Kind::Open) => ("reference", "reference_open"),
             (Side::Reference, Kind::Broadcast) => ("reference", "reference_broadcast"),
             (Side::Reference, Kind::Receive) => ("reference", "reference_receive"),
+            (Side::Reference, Kind::Preview) => ("reference", "reference_preview"),
         };
         let output = Command::new("valgrind")
             .args(["--tool=callgrind", "--callgrind-out-file=/dev/null"])

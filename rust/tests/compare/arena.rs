@@ -4,7 +4,7 @@ use crate::comparison::{Implementation, Kind};
 use mbrb::random::Random;
 use mbrb::Config;
 
-const CONFIG: Config = Config {
+pub const CONFIG: Config = Config {
     n: 4,
     t: 1,
     d: 0,
@@ -58,6 +58,7 @@ impl Arena {
             Kind::Open => (implementation.open)(&CONFIG, records),
             Kind::Broadcast => (implementation.broadcast)(&CONFIG, given, records, out),
             Kind::Receive => (implementation.receive)(&CONFIG, given, records, out),
+            Kind::Preview => (implementation.preview)(&CONFIG, given, records, out),
         }
     }
 }
@@ -70,3 +71,11 @@ pub fn bundle(signers: u8) -> [u8; 32] {
     bundle[16..].fill(b'a');
     bundle
 }
+
+/// Records among the program's constants, where a write ends the program. In the first, node 1 holds that bundle's payload, signed by
+/// the sender and itself; the others are empty.
+pub static CONSTANT: [[u8; 32]; 64] = {
+    let mut records = [[0; 32]; 64];
+    records[0] = *b"\x01\0\0\0\0\0\0\0\0\0\0\0\0\0\0\x03aaaaaaaaaaaaaaaa";
+    records
+};

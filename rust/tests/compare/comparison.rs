@@ -3,7 +3,7 @@
 use mbrb::{host, reference, Config};
 use std::fmt;
 
-type Call = fn(&Config, &[u8], &mut [u8], &mut [u8]) -> u32;
+pub type Call = fn(&Config, &[u8], &mut [u8], &mut [u8]) -> u32;
 
 /// The calls of a C host; each gives its code.
 #[derive(Clone, Copy)]
@@ -11,18 +11,22 @@ pub struct Implementation {
     pub open: fn(&Config, &mut [u8]) -> u32,
     pub broadcast: Call,
     pub receive: Call,
+    /// It is lent the records to write as well: whether it leaves them is to be seen, and a wrong one may not.
+    pub preview: Call,
 }
 
 pub const HOST: Implementation = Implementation {
     open: host::open,
     broadcast: host::broadcast,
     receive: host::receive,
+    preview: |config, bundle, records, out| host::preview(config, bundle, records, out),
 };
 
 pub const REFERENCE: Implementation = Implementation {
     open: reference::open_code,
     broadcast: reference::broadcast_code,
     receive: reference::receive_code,
+    preview: |config, bundle, records, out| reference::preview_code(config, bundle, records, out),
 };
 
 #[derive(Clone, Copy, Debug, PartialEq, Eq, PartialOrd, Ord)]
@@ -30,6 +34,7 @@ pub enum Kind {
     Open,
     Broadcast,
     Receive,
+    Preview,
 }
 
 /// Where the slot's record starts.
@@ -42,7 +47,7 @@ pub fn place(sender: u8, seq: u8) -> usize {
 pub struct Case {
     pub kind: Kind,
     pub config: Config,
-    /// the payload of a broadcast, the bundle of a receive; an opening has none
+    /// the payload of a broadcast, the bundle of a receive or a preview; an opening has none
     pub input: Vec<u8>,
     pub records_length: usize,
     /// The call gets the first `out_length` of these; those behind must stay.
@@ -57,24 +62,34 @@ impl Case {
         let Config { n, own, .. } = self.config;
         match (self.kind, self.input.get(4), self.input.get(5)) {
             (Kind::Broadcast, ..) if own < n => (place(own, 0), 512),
-            (Kind::Receive, Some(&sender), Some(&seq)) if sender < n && seq < 16 => {
+            (Kind::Receive | Kind::Preview, Some(&sender), Some(&seq))
+                if sender < n && seq < 16 =>
+            {
                 (place(sender, seq), 32)
             }
             _ => (0, 0),
         }
     }
 
+    /// The code and the outgoing bytes, with what lies behind them.
     fn run(&self, implementation: &Implementation, records: &mut [u8]) -> (u32, [u8; 64]) {
+        let call = match self.kind {
+            Kind::Open => {
+                let code = (implementation.open)(&self.config, &mut records[..self.records_length]);
+                return (code, self.out);
+            }
+            Kind::Broadcast => implementation.broadcast,
+            Kind::Receive => implementation.receive,
+            Kind::Preview => implementation.preview,
+        };
+        self.run_call(call, records)
+    }
+
+    fn run_call(&self, call: Call, records: &mut [u8]) -> (u32, [u8; 64]) {
         let mut out = self.out;
         let lent = &mut records[..self.records_length];
         let lent_out = &mut out[..self.out_length];
-        let code = match self.kind {
-            Kind::Open => (implementation.open)(&self.config, lent),
-            Kind::Broadcast => {
-                (implementation.broadcast)(&self.config, &self.input, lent, lent_out)
-            }
-            Kind::Receive => (implementation.receive)(&self.config, &self.input, lent, lent_out),
-        };
+        let code = call(&self.config, &self.input, lent, lent_out);
         (code, out)
     }
 }
@@ -86,6 +101,8 @@ pub struct Records {
     pub sides: [Vec<u8>; 2],
     /// as they were before the last call
     pub before: Vec<u8>,
+    /// what is taken on where a call is a preview
+    copy: Vec<u8>,
 }
 
 impl Records {
@@ -93,7 +110,8 @@ impl Records {
         let bytes = vec![0; 512 * (usize::from(n) + 1)];
         Records {
             sides: [bytes.clone(), bytes.clone()],
-            before: bytes,
+            before: bytes.clone(),
+            copy: bytes,
         }
     }
 
@@ -119,23 +137,45 @@ pub fn call_both(
     records: &mut Records,
 ) -> Result<(u32, [u8; 64]), Box<Difference>> {
     records.before.copy_from_slice(&records.sides[0]);
-    let (code, out) = case.run(&pair[0], &mut records.sides[0]);
-    let (other_code, other_out) = case.run(&pair[1], &mut records.sides[1]);
-    if code == other_code && out == other_out && records.sides[0] == records.sides[1] {
-        return Ok((code, out));
+    let one = case.run(&pair[0], &mut records.sides[0]);
+    let other = case.run(&pair[1], &mut records.sides[1]);
+    if one != other || records.sides[0] != records.sides[1] {
+        let what = "one implementation and the other";
+        return Err(Difference::new(what, case, [one, other], records));
     }
-    Err(Box::new(Difference {
-        seed: 0,
-        call: 0,
-        case: case.clone(),
-        codes: [code, other_code],
-        outs: [out, other_out],
-        records: records.clone(),
-    }))
+    if case.kind == Kind::Preview {
+        hold_to_taking(pair, case, records, one)?;
+    }
+    Ok(one)
 }
 
-/// All that one needs to repeat a call on which two implementations differ.
+/// What both preview is what each of them takes on a copy, and the records are as before. So an error that both have is found as well.
+fn hold_to_taking(
+    pair: &[Implementation; 2],
+    case: &Case,
+    records: &mut Records,
+    previewed: (u32, [u8; 64]),
+) -> Result<(), Box<Difference>> {
+    if records.sides[1] != records.before {
+        records.sides[0].copy_from_slice(&records.before);
+        let what = "the records before a preview and after";
+        return Err(Difference::new(what, case, [previewed; 2], records));
+    }
+    for implementation in pair {
+        records.copy.copy_from_slice(&records.before);
+        let taken = case.run_call(implementation.receive, &mut records.copy);
+        if taken != previewed {
+            let what = "taking on a copy and a preview";
+            return Err(Difference::new(what, case, [taken, previewed], records));
+        }
+    }
+    Ok(())
+}
+
+/// All that one needs to repeat a call on which two implementations differ, or a preview that differs from taking.
 pub struct Difference {
+    /// what is shown first, and what second
+    what: &'static str,
     pub seed: u64,
     /// the number of the call since the seed, from 1
     pub call: u64,
@@ -146,6 +186,24 @@ pub struct Difference {
 }
 
 impl Difference {
+    /// Seed and number of the call are filled in where they are known.
+    fn new(
+        what: &'static str,
+        case: &Case,
+        [(code, out), (other_code, other_out)]: [(u32, [u8; 64]); 2],
+        records: &Records,
+    ) -> Box<Difference> {
+        Box::new(Difference {
+            what,
+            seed: 0,
+            call: 0,
+            case: case.clone(),
+            codes: [code, other_code],
+            outs: [out, other_out],
+            records: records.clone(),
+        })
+    }
+
     pub fn records_differ(&self) -> bool {
         self.records.sides[0] != self.records.sides[1]
     }
@@ -169,6 +227,7 @@ impl fmt::Debug for Difference {
     fn fmt(&self, f: &mut fmt::Formatter) -> fmt::Result {
         let case = &self.case;
         writeln!(f, "seed {}, call {}: {:?}", self.seed, self.call, case.kind)?;
+        writeln!(f, "  {}", self.what)?;
         writeln!(f, "  {:?}", case.config)?;
         let length = case.input.len();
         writeln!(f, "  input, {length} bytes: {}", hex(&case.input))?;

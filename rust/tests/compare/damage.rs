@@ -12,7 +12,7 @@ pub fn damage(random: &mut Random, case: &mut Case, node: &Node) {
     let kinds = match case.kind {
         Kind::Open => 2,
         Kind::Broadcast => 4,
-        Kind::Receive => 12,
+        Kind::Receive | Kind::Preview => 12,
     };
     match random.below(kinds) {
         0 => {
@@ -29,7 +29,7 @@ pub fn damage(random: &mut Random, case: &mut Case, node: &Node) {
         2 => case.out_length = [0, 31, 33, 64][random.below(4)],
         3 => {
             let length = match case.kind {
-                Kind::Receive => [0, 16, 31, 33, 64][random.below(5)],
+                Kind::Receive | Kind::Preview => [0, 16, 31, 33, 64][random.below(5)],
                 _ => random.below(41),
             };
             case.input.resize(length, 0);

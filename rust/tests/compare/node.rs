@@ -1,6 +1,6 @@
 //! A node with its records, and what the tally needs to know of them.
 
-use crate::comparison::{place, Case, Records};
+use crate::comparison::{place, Case, Kind, Records};
 use crate::records::{bytes, Clause, Slot, CLAUSES};
 use mbrb::{random::Random, Config};
 use std::collections::BTreeMap;
@@ -90,8 +90,11 @@ impl Node {
         concerned.next().map(|(_, &clause)| clause)
     }
 
-    /// Whether this answer completes the life of a slot: signed here, kept, delivered, refused from then on.
+    /// Whether this answer completes the life of a slot: signed here, kept, delivered, refused from then on. A preview is no part of it.
     pub fn completes_life(&mut self, case: &Case, code: u32) -> bool {
+        if case.kind == Kind::Preview {
+            return false;
+        }
         let (start, _) = case.concerned();
         let (place, stage) = match code {
             200..=215 => (start + 32 * (code as usize - 200), 1),

@@ -158,7 +158,8 @@ impl System {
             let payload = self.payload(random);
             (Kind::Broadcast, payload.to_vec())
         } else {
-            (Kind::Receive, self.bundle(random, node).to_vec())
+            let kind = [Kind::Receive, Kind::Preview][random.below(2)];
+            (kind, self.bundle(random, node).to_vec())
         };
         Case {
             kind,

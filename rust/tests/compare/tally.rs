@@ -22,7 +22,7 @@ pub struct Tally {
     accepted: BTreeMap<(Kind, u8), u64>,
     /// refusals 21, by the clause that the record was made malformed by
     clauses: BTreeMap<(Kind, Clause), u64>,
-    meetings: BTreeMap<(Meets, u32), u64>,
+    meetings: BTreeMap<(Kind, Meets, u32), u64>,
     /// slots signed, kept, delivered and then refused at one node, all by calls
     pub lives: u64,
 }
@@ -39,9 +39,10 @@ impl Tally {
         if let (21, Some(clause)) = (code, clause) {
             *self.clauses.entry((case.kind, clause)).or_default() += 1;
         }
-        if case.kind == Kind::Receive && code >= 22 {
+        if BUNDLE_KINDS.contains(&case.kind) && code >= 22 {
             if let Some(meets) = meets(case, records) {
-                *self.meetings.entry((meets, code)).or_default() += 1;
+                let key = (case.kind, meets, code);
+                *self.meetings.entry(key).or_default() += 1;
             }
         }
     }
@@ -53,18 +54,20 @@ impl Tally {
             .into_iter()
             .chain(OPEN_CODES.map(|code| (Kind::Open, code)))
             .chain((200..=215).map(|code| (Kind::Broadcast, code)))
-            .chain(RECEIVE_CODES.map(|code| (Kind::Receive, code)));
+            .chain(of_bundles(BUNDLE_CODES));
         assert_seen("code", &self.codes, codes, least);
-        let kinds = [Kind::Broadcast, Kind::Receive];
-        let sizes = [Kind::Open]
+        let sizes = KINDS
             .into_iter()
-            .chain(kinds)
-            .flat_map(|k| (1..=64).map(move |n| (k, n)));
+            .flat_map(|kind| (1..=64).map(move |n| (kind, n)));
         assert_seen("accepted at n", &self.accepted, sizes, least);
-        let clauses = kinds.into_iter().flat_map(|k| CLAUSES.map(|c| (k, c)));
-        let clauses = clauses.filter(|&(kind, clause)| can_refuse(kind, clause));
+        let clauses = CLAUSES
+            .into_iter()
+            .filter(|&clause| in_our_slots(clause))
+            .map(|clause| (Kind::Broadcast, clause))
+            .chain(of_bundles(CLAUSES));
         assert_seen("malformed by", &self.clauses, clauses, least);
-        assert_seen("record and code", &self.meetings, MEETINGS, least);
+        let meetings = of_bundles(MEETINGS).map(|(kind, (meets, code))| (kind, meets, code));
+        assert_seen("record and code", &self.meetings, meetings, least);
         assert!(
             self.lives >= least,
             "whole lives: {}, not {least}",
@@ -73,11 +76,24 @@ impl Tally {
     }
 }
 
+const KINDS: [Kind; 4] = [Kind::Open, Kind::Broadcast, Kind::Receive, Kind::Preview];
+
+/// A preview is expected to see all that taking sees.
+const BUNDLE_KINDS: [Kind; 2] = [Kind::Receive, Kind::Preview];
+
+fn of_bundles<Item: Copy, const COUNT: usize>(
+    items: [Item; COUNT],
+) -> impl Iterator<Item = (Kind, Item)> {
+    BUNDLE_KINDS
+        .into_iter()
+        .flat_map(move |kind| items.map(|item| (kind, item)))
+}
+
 const OPEN_CODES: [u32; 3] = [0, 1, 20];
 
 const BROADCAST_CODES: [u32; 6] = [1, 9, 10, 20, 21, 25];
 
-const RECEIVE_CODES: [u32; 17] = [
+const BUNDLE_CODES: [u32; 17] = [
     1, 2, 3, 4, 5, 6, 7, 8, 10, 20, 21, 22, 23, 24, 100, 101, 102,
 ];
 
@@ -94,9 +110,8 @@ const MEETINGS: [(Meets, u32); 9] = [
 ];
 
 /// In our own slots the sender's bit is ours, so no record lacks just one of the two.
-fn can_refuse(kind: Kind, clause: Clause) -> bool {
-    let one_of_two = matches!(clause, Clause::HeldWithoutSender | Clause::HeldWithoutOwn);
-    kind == Kind::Receive || !one_of_two
+fn in_our_slots(clause: Clause) -> bool {
+    !matches!(clause, Clause::HeldWithoutSender | Clause::HeldWithoutOwn)
 }
 
 fn meets(case: &Case, records: &[u8]) -> Option<Meets> {
@@ -129,31 +144,46 @@ fn assert_seen<Key: Copy + Ord + fmt::Debug>(
 impl fmt::Display for Tally {
     fn fmt(&self, f: &mut fmt::Formatter) -> fmt::Result {
         writeln!(f, "calls: {}", self.calls)?;
-        show(f, "code", &self.codes)?;
-        show(f, "21, by what makes the record malformed", &self.clauses)?;
-        show(f, "what a bundle meets, and the code", &self.meetings)?;
+        show(f, "code", &self.codes, |(kind, code)| {
+            format!("{kind:?} {code}")
+        })?;
+        show(
+            f,
+            "21, by what makes the record malformed",
+            &self.clauses,
+            |(kind, clause)| format!("{kind:?} {clause:?}"),
+        )?;
+        show(
+            f,
+            "what a bundle meets, and the code",
+            &self.meetings,
+            |(kind, meets, code)| format!("{kind:?} {meets:?} {code}"),
+        )?;
         writeln!(f, "whole lives of slots: {}", self.lives)?;
-        for kind in [Kind::Open, Kind::Broadcast, Kind::Receive] {
+        for kind in KINDS {
+            let codes = self.codes.range((kind, 0)..=(kind, u32::MAX));
+            let calls: u64 = codes.map(|(_, count)| count).sum();
             let counts = self.accepted.range((kind, 0)..=(kind, 255));
             let (sizes, least) = (counts.clone().count(), counts.map(|(_, count)| count).min());
             let least = least.unwrap_or(&0);
             writeln!(
                 f,
-                "{kind:?} accepted: {sizes} values of n, each at least {least} times"
+                "{kind:?}: {calls} calls, accepted for {sizes} values of n, each at least {least} times"
             )?;
         }
         Ok(())
     }
 }
 
-fn show<A: fmt::Debug, B: fmt::Debug>(
+fn show<Key>(
     f: &mut fmt::Formatter,
     title: &str,
-    counts: &BTreeMap<(A, B), u64>,
+    counts: &BTreeMap<Key, u64>,
+    name: impl Fn(&Key) -> String,
 ) -> fmt::Result {
     writeln!(f, "{title}")?;
-    for ((first, second), count) in counts {
-        writeln!(f, "  {:34}{count:>9}", format!("{first:?} {second:?}"))?;
+    for (key, count) in counts {
+        writeln!(f, "  {:34}{count:>9}", name(key))?;
     }
     Ok(())
 }
