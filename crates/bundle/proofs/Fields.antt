@@ -16,7 +16,8 @@ use Rattle.payload.specs.declared.Payload.{Payload}
 use Rattle.payload.specs.Payload.{payloadSize, bytes, loaded}
 use Rattle.config.specs.declared.Slot.{Slot}
 use Rattle.bundle.specs.declared.Header.{Header}
-use Rattle.bundle.specs.Bundle.{bundleSize, payloadStart, bundleOf, slotIn, headerIn, payloadIn, payloadLoaded, encoded, resigned, slotOf}
+use Rattle.bundle.specs.Bundle.{bundleSize, payloadStart, bundleOf, slotIn, headerIn, payloadIn, payloadLoaded, encoded, slotOf}
+use Rattle.bundle.specs.Inner.{resigned}
 
 -- the first word of a bundle, by its slot
 abbrev pub slotWord : Slot → ℕ

@@ -22,7 +22,8 @@ use Rattle.config.specs.declared.Config.{Config}
 use Rattle.config.specs.Config.{good, slotOfDay}
 use Rattle.config.proofs.Laws.{good-says}
 use Rattle.bundle.specs.declared.Header.{Header}
-use Rattle.bundle.specs.Bundle.{bundleSize, payloadStart, bundleOf, slotIn, headerIn, payloadIn, headerReasons, read, payloadPart, headerOf, headerOfDay, resigned}
+use Rattle.bundle.specs.Bundle.{bundleSize, payloadStart, bundleOf, slotIn, headerIn, payloadIn, headerReasons, read, payloadPart, headerOf, headerOfDay}
+use Rattle.bundle.specs.Inner.{resigned}
 use Rattle.bundle.specs.RoundTrip.{WrittenReadsBack, AcceptedWritesBack}
 use Rattle.bundle.proofs.Accepted.{Readable, accepted-readable, readable-accepted, accepted-payload, written-writable, writable-written}
 

@@ -111,11 +111,6 @@ module _ (config : Config) (sender seq signers : ℕ) (payload out : List ℕ) w
 unfoldable pub encoded : Header → (payload out : List ℕ) → List ℕ
 encoded h payload out = cond (eqb (length out) bundleSize) (bundleOf h payload) out
 
--- what a buffer holds after a bundle is written over it with other signers, if both have a bundle's length: slot and payload stay as they are
-unfoldable pub resigned : (bundle : List ℕ) (signers : ℕ) (out : List ℕ) → List ℕ
-resigned bundle signers out =
-    cond (eqb (length bundle) bundleSize && eqb (length out) bundleSize) (part 0 8 bundle ++ (bytesOf 8 signers ++ payloadIn bundle)) out
-
 -- the number and values of each case of a reading (R17.3)
 abbrev pub readingOf : Reading → Outcome Header
 readingOf (Accepted h) = done h

@@ -13,7 +13,8 @@ ghost use Rattle.payload.specs.Payload.{bytes};
 ghost use Rattle.refusal.specs.Refusal.{verdictOf};
 ghost use Rattle.refusal.specs.Outcome.{unless, after, plain};
 ghost use Rattle.config.specs.Config.{good};
-ghost use Rattle.bundle.specs.Bundle.{encoded, headerReasons, read as readOf, readingOf, payloadPart, payloadPlace, payloadLoaded, write as writeOf, writeOut, resigned};
+ghost use Rattle.bundle.specs.Bundle.{encoded, headerReasons, read as readOf, readingOf, payloadPart, payloadPlace, payloadLoaded, write as writeOf, writeOut};
+ghost use Rattle.bundle.specs.Inner.{resigned};
 
 // A bundle's bytes.
 pub const SIZE: usize = 32;

@@ -13,7 +13,8 @@ use Rattle.config.specs.declared.Config.{Config}
 use Rattle.config.specs.Config.{quorum, place, recordsSize}
 use Rattle.config.proofs.Laws.{good-says}
 use Rattle.bundle.specs.declared.Header.{Header}
-use Rattle.bundle.specs.Bundle.{bundleOf, read, payloadIn, payloadPart, slotIn, slotOf, headerOf, resigned}
+use Rattle.bundle.specs.Bundle.{bundleOf, read, payloadIn, payloadPart, slotIn, slotOf, headerOf}
+use Rattle.bundle.specs.Inner.{resigned}
 use Rattle.bundle.proofs.RoundTrip.{resigned-accepted}
 use Rattle.protocol.specs.Update.{Answer, signersOf, payloadOf, isEmpty, sends, Update, update}
 use Rattle.protocol.proofs.WellFormed.{WellFormed, update-well-formed, update-payload}

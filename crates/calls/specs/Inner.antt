@@ -15,7 +15,8 @@ use Rattle.refusal.specs.Outcome.{Outcome, refused, done, after, _and-then_}
 use Rattle.config.specs.declared.Config.{Config}
 use Rattle.config.specs.declared.Slot.{Slot}
 use Rattle.config.specs.Config.{quorum, slots, recordSize, place}
-use Rattle.bundle.specs.Bundle.{bundleOf, headerOf, slotIn, resigned}
+use Rattle.bundle.specs.Bundle.{bundleOf, headerOf, slotIn}
+use Rattle.bundle.specs.Inner.{resigned}
 use Rattle.protocol.specs.Update.{Answer, sends}
 use Rattle.record.specs.Record.{signersField, payloadField, wellFormed, receivedOf}
 use Rattle.calls.specs.declared.Decision.{Decision}

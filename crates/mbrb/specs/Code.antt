@@ -1,5 +1,5 @@
--- The C interface: three functions over numbers and byte slices, each with one code as its result (R11.1). Which code each answer has (R11.2), which codes a host
--- can see (R11.3), and what a refusal's code means (R11.4). The laws are proved in proofs/Codes.antt.
+-- The C interface: functions over numbers and byte slices, each with one code as its result (R11.1). Which code each answer has (R11.2), which codes a host
+-- can see (R11.3), and what a refusal's code means (R11.4). A preview has taking's codes. The laws are proved in proofs/Codes.antt.
 -- Assumes nothing.
 use mathlib.Core.Path.{_≡_}
 use mathlib.Core.Bool.{Bool, true, false, _||_}
@@ -82,7 +82,7 @@ ReceiveListed = (config : Config) (bundle records out : List ℕ) → listed rec
 abbrev pub RefusalCode : ℕ → Type 0
 RefusalCode code = (0 < code) × (code < 100)
 
--- are those of refusals: a refusal of any of the three has such a code,
+-- are those of refusals: a refusal of any call has such a code,
 abbrev pub RefusalsBelow100 : Type 0
 RefusalsBelow100 =
     (config : Config) (records out : List ℕ)

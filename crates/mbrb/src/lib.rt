@@ -1,7 +1,7 @@
 // The C interface: opening a day, broadcasting and receiving through numbers and byte slices, with one code for an answer.
 //
-// include/mbrb.h declares the three functions for C and C++. A slice passes as a pointer and a length; what the host must see to
-// there is in that file.
+// include/mbrb.h declares the functions for C and C++, with that of crate mbrb_preview. A slice passes as a pointer and a length; what
+// the host must see to there is in that file.
 use calls::Announcement;
 use calls::Receipt;
 use config::Config;

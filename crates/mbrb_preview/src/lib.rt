@@ -2,7 +2,7 @@
 //
 // include/mbrb.h declares the function beside those of crate mbrb. It is a crate of its own since a static library is
 // compiled as one module: there the decision that receiving and its preview share would have two callers, and the
-// compiler would call it in place of joining it to each, which costs receiving half as many instructions again.
+// compiler would call it in place of joining it to each, which costs receiving more than half as many instructions again.
 ghost use mathlib.Core.Path.{_≡_};
 ghost use Rattle.calls.specs.Receive.{receive, receiveOut};
 ghost use Rattle.mbrb.specs.Code.{configOf, receivedCode};

@@ -4,7 +4,7 @@ use Prim.Native.Nat.{ℕ}
 use native.Mathlib.Omega.{arith}
 use Rattle.signers.specs.Signers as signers
 use Rattle.refusal.specs.Outcome.{done}
-use Rattle.bundle.specs.Bundle.{resigned}
+use Rattle.bundle.specs.Inner.{resigned}
 use Rattle.record.specs.Record.{signersField, bytes}
 use Rattle.record.proofs.Words.{signers-words}
 use Rattle.calls.specs.Inner.{settledReceipt, settledOut}
