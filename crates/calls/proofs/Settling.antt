@@ -1,6 +1,6 @@
 -- What becomes of a decision, in the answer and in the two buffers, is what receiving says. From the laws of well-formed records.
 -- Assumes nothing.
-use mathlib.Core.Path.{_≡_, refl, sym, ap, ap₂, _∙_}
+use mathlib.Core.Path.{_≡_, refl, sym, ap, _∙_}
 use mathlib.Core.Bool.{true, false, cond}
 use mathlib.Core.List.{List}
 use Prim.Native.Nat.{ℕ}
@@ -18,7 +18,9 @@ use Rattle.bundle.specs.Inner.{resigned}
 use Rattle.bundle.proofs.RoundTrip.{resigned-accepted}
 use Rattle.protocol.specs.Update.{Answer, signersOf, payloadOf, isEmpty, sends, Update, update}
 use Rattle.protocol.proofs.WellFormed.{WellFormed, update-well-formed, update-payload}
-use Rattle.record.specs.Record.{encoding, signersField, decoded, wellFormed, encodedUpdate}
+use Rattle.record.specs.declared.Record as held
+use Rattle.record.specs.Record.{encoding, signersField, bytes, decoded, wellFormed, encodedUpdate}
+use Rattle.record.proofs.Words.{Fits, signers-words}
 use Rattle.record.proofs.Encoding.{decoded-well-formed, encoding-fields}
 use Rattle.calls.specs.Records.{recordAt, stored}
 use Rattle.calls.specs.Receive.{recordBundle, receiveReasons, receive, receiveRecords, receiveOut, reported}
@@ -117,3 +119,14 @@ module _ (config : Config) (bundle records out : List ℕ) where
       go : (o : Outcome Update) → receive config bundle records out ≡ o → refused number ≡ encodedUpdate o → receive config bundle records out ≡ refused number
       go (refused other) q f = let same : other ≡ number = cc in q ∙ ap refused same
       go (done result) q f = absurd (refused-not-done number (result .answer, encoding (result .newRecord)) f)
+
+-- what is told of a record that came of a bundle, and written if the answer sends, goes by the signers in the record's bytes
+pub settled-record : (bundle out written : List ℕ) (r : held.Record) (answer : Answer) (count : ℕ) → Fits r → count ≡ signers.size (r .signers)
+    → written ≡ cond (sends answer) (resigned bundle (r .signers) out) out
+    → (done (answer, count) ≡ settledReceipt (done (answer, bytes r))) × (written ≡ settledOut bundle (done (answer, bytes r)) out)
+unfolding settledReceipt settledOut
+settled-record bundle out written r answer count fits counted e =
+    let same : r .signers ≡ signersField (bytes r) = sym (signers-words r fits) in (
+      ap (λ (k : ℕ). done (answer, k)) (counted ∙ ap signers.size same),
+      e ∙ ap (λ (k : ℕ). cond (sends answer) (resigned bundle k out) out) same,
+    )

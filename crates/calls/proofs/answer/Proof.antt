@@ -1,28 +1,24 @@
 -- `answer` meets its contract: the count is that of the record's signers, and the bundle is written as the answer says. Assumes nothing.
-use mathlib.Core.Path.{_≡_, refl, sym, ap, _∙_}
-use Prim.Native.Nat.{ℕ}
+use mathlib.Core.Path.{refl}
 use native.Mathlib.Omega.{arith}
-use Rattle.signers.specs.Signers as signers
-use Rattle.refusal.specs.Outcome.{done}
-use Rattle.bundle.specs.Inner.{resigned}
-use Rattle.record.specs.Record.{signersField, bytes}
-use Rattle.record.proofs.Words.{signers-words}
+use Rattle.record.proofs.Words.{Fits}
 use Rattle.calls.specs.Inner.{settledReceipt, settledOut}
+use Rattle.calls.proofs.Settling.{settled-record}
 use borrow.Author.Needs.{needs}
 use Rattle.calls.proofs.answer.Statement.{statement}
 use Rattle.calls.proofs.answer.Tie as tie
 use Rattle.bundle.proofs.with_signers.Reads as with-signers-reads
 use Rattle.signers.proofs.size.Reads as size-reads
 
--- the signers' word is that of the record's bytes, in each case, since its words fit, as their types say
-signers-kept : (c : tie.After-known-told) → c .before .received .given .0 .0 .signers ≡ signersField (bytes (c .before .received .given .0 .0))
-signers-kept c = sym (signers-words (c .before .received .given .0 .0) (record { head-fits = omega arith; signers-fits = omega arith; payload-fits = record { high-fits = omega arith; low-fits = omega arith } }))
+-- the words of the record fit, in each case, as their types say
+fits-kept : (c : tie.After-known-told) → Fits (c .before .received .given .0 .0)
+fits-kept c = record { head-fits = omega arith; signers-fits = omega arith; payload-fits = record { high-fits = omega arith; low-fits = omega arith } }
 
-signers-signed : (c : tie.After-known-told2) → c .before .received2 .given .0 .0 .signers ≡ signersField (bytes (c .before .received2 .given .0 .0))
-signers-signed c = sym (signers-words (c .before .received2 .given .0 .0) (record { head-fits = omega arith; signers-fits = omega arith; payload-fits = record { high-fits = omega arith; low-fits = omega arith } }))
+fits-signed : (c : tie.After-known-told2) → Fits (c .before .received2 .given .0 .0)
+fits-signed c = record { head-fits = omega arith; signers-fits = omega arith; payload-fits = record { high-fits = omega arith; low-fits = omega arith } }
 
-signers-delivered : (c : tie.After-known-told3) → c .before .received3 .given .0 .0 .signers ≡ signersField (bytes (c .before .received3 .given .0 .0))
-signers-delivered c = sym (signers-words (c .before .received3 .given .0 .0) (record { head-fits = omega arith; signers-fits = omega arith; payload-fits = record { high-fits = omega arith; low-fits = omega arith } }))
+fits-delivered : (c : tie.After-known-told3) → Fits (c .before .received3 .given .0 .0)
+fits-delivered c = record { head-fits = omega arith; signers-fits = omega arith; payload-fits = record { high-fits = omega arith; low-fits = omega arith } }
 
 -- ---- the needs
 
@@ -54,37 +50,28 @@ enum-known-received-4 : tie.Need-enum-known-received-4
 enum-known-received-4 c = search needs
 
 returns : tie.Need-returns
-unfolding settledReceipt settledOut
 returns c =
-    rw (c .before .before .received .given .1) (ap (λ (k : ℕ). done (_, k)) (c .size .ensures ∙ ap signers.size (signers-kept (c .before))), refl)
+    let given = c .before .before .before .before .before .before .args in
+    rw (c .before .before .received .given .1)
+    (settled-record (given .bundle .now) (given .out .now) (given .out .now) _ _ _ (fits-kept (c .before)) (c .size .ensures) refl)
 
 same-length : tie.Need-same-length
 same-length c = search needs
 
 returns-2 : tie.Need-returns-2
-unfolding settledReceipt settledOut
 returns-2 c =
     let written = c .before .before .before in
     let told = written .before .before in
-    let given = told .before .before .before .before .before .args in
-    rw (told .before .received2 .given .1) (
-      ap (λ (k : ℕ). done (_, k)) (c .size2 .ensures ∙ ap signers.size (signers-signed told)),
-      written .with-signers .ensures ∙ ap (λ (k : ℕ). resigned (given .bundle .now) k (given .out .now)) (signers-signed told),
-    )
+    rw (told .before .received2 .given .1) (settled-record _ _ _ _ _ _ (fits-signed told) (c .size2 .ensures) (written .with-signers .ensures))
 
 same-length-2 : tie.Need-same-length-2
 same-length-2 c = search needs
 
 returns-3 : tie.Need-returns-3
-unfolding settledReceipt settledOut
 returns-3 c =
     let written = c .before .before .before in
     let told = written .before .before in
-    let given = told .before .before .before .before .before .args in
-    rw (told .before .received3 .given .1) (
-      ap (λ (k : ℕ). done (_, k)) (c .size3 .ensures ∙ ap signers.size (signers-delivered told)),
-      written .with-signers2 .ensures ∙ ap (λ (k : ℕ). resigned (given .bundle .now) k (given .out .now)) (signers-delivered told),
-    )
+    rw (told .before .received3 .given .1) (settled-record _ _ _ _ _ _ (fits-delivered told) (c .size3 .ensures) (written .with-signers2 .ensures))
 
 returns-4 : tie.Need-returns-4
 unfolding settledReceipt settledOut
