@@ -136,7 +136,7 @@
  * 7. The cascade and its radio
  *
  *   - n, t, d and day are the same at all units, and own is different at each. At most t units are faulty; a unit that
- *     breaks sections 3 to 6 or 12 is one of them.
+ *     breaks sections 3 to 6, or sends or signs for what a preview left, is one of them.
  *   - The same bytes may be sent again, at any time and by anybody. To take them once more changes nothing, unless a
  *     restart has lost what they had changed.
  *   - For delivery each bundle that a sound unit sends comes to be taken at all sound units but d. It does not matter
@@ -221,27 +221,27 @@
  *
  * 12. A service display
  *
- * mbrb_preview tells what taking a waiting bundle would do now. It gives the code that mbrb_receive would give with the
+ * mbrb_preview tells what taking a bundle would do now. It gives the code that mbrb_receive would give with the
  * same arguments, and leaves in `out` the bytes that this would leave there; the records are lent for reading and stay
  * as they are. It is none of the calls that the lists of section 9 are made of. It may be called as often as wanted and
- * changes nothing for any unit, which is proved (docs/RULES.md).
+ * changes nothing for any unit, which is proved (docs/CLAIMS.md, R14.20).
  *
  * A display may show
  *   - that the bundle would be kept, signed, delivered or refused, and why (section 8);
  *   - the signers that the record would have: at MBRB_SIGNED and MBRB_DELIVERED those in `out`, at MBRB_KEPT those of
  *     the record and of the bundle together.
- * It shows this as of now. A preview holds until the next call that changes the record of its slot: taking a bundle of
- * that slot, opening, or, if the slot is ours, announcing.
+ * It shows this as of now. A preview holds as long as the record of its slot stays the same: until a bundle of that slot
+ * is taken, the day is opened, we announce in a slot of ours, or a restart loses an MBRB_KEPT that was not saved.
  *
  * Before a preview the host does what it does before taking, or else taking would do something else than was shown:
  *   - It compares the days (section 4), under the lock that spans the preview (section 3). Where the clock's is later,
  *     taking opens the new day first, and there is nothing to show of the old one.
  *   - It copies the bundle, the key chip checks the signatures, and the bit of each that does not hold is cleared
- *     (section 6).
+ *     (section 6). Taking checks them again, or is given that very copy: never a bundle with bits that nobody has checked.
  *
  * After a preview it does nothing of what it does after taking:
- *   - `out` is never sent, and no signature is made for it: our record would not know of it, and it could be our second
- *     one in its slot. Use a buffer for `out` that is apart from the one that is sent from.
+ *   - `out` is never sent, and no signature is made for it: our record would not know of that signature, which could be
+ *     our second in its slot. Use a buffer for `out` that is apart from the one that is sent from.
  *   - Nothing is saved, and no signature that came with the bundle is stored.
  *   - Nobody acts on the body: MBRB_DELIVERED means that it would be delivered, not that it is.
  *   - The bundle is still to be taken. Until then it has not reached this unit (section 7).
@@ -343,7 +343,7 @@ uint32_t mbrb_receive(uint8_t n, uint8_t t, uint8_t d, uint8_t own, uint32_t day
                       uint8_t *out, size_t out_len);
 
 /* For a display: tells by code and `out` what mbrb_receive would do with the same arguments, and does not do it. The
- * records stay as they are, and nothing of it is sent, signed for, saved or acted on (section 12). */
+ * records stay as they are, and nobody sends, signs for, saves or acts on what it tells (section 12). */
 uint32_t mbrb_preview(uint8_t n, uint8_t t, uint8_t d, uint8_t own, uint32_t day,
                       const uint8_t *bundle, size_t bundle_len,
                       const uint8_t *records, size_t records_len,

@@ -227,8 +227,8 @@ static void show(const struct unit *unit)
         }
 }
 
-/* Section 12: for a display, what a waiting bundle would do if it were taken now. The unit stays as it is, and `out` is the display's: nothing of
- * it is saved, sent or acted on. What a code asks for is done by take, when it gives it. */
+/* Section 12: for a display, what taking a bundle would do now. The unit stays as it is, and `out` is the display's: nothing in it is
+ * saved, sent or acted on. What a code asks for is done by take, when it gives it. */
 static void preview(const struct unit *unit, const uint8_t *arrived)
 {
     uint8_t bundle[MBRB_BUNDLE_SIZE], out[MBRB_BUNDLE_SIZE];

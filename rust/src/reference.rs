@@ -284,7 +284,7 @@ struct Outcome {
 }
 
 /// All of taking but the store: the checks, the answer and the outgoing bytes.
-// Inlined into both callers, it costs `preview` no record, and `receive` no second look for the slot.
+// Inlined into both: so `preview` makes no record that it does not store, and `receive` looks for the slot once.
 #[inline(always)]
 fn foresee(
     config: &Config,

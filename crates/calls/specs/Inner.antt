@@ -32,7 +32,7 @@ abbrev pub decisionOf : Decision → Outcome (Answer × List ℕ)
 decisionOf (Made start received) = receivedOf received
 decisionOf (Refused reason) = refused (numberOf reason)
 
--- a decision that came as far as a record has found it at the place of the bundle's slot
+-- where a decision was made, it starts at the place of the bundle's slot, and a record fits there
 abbrev pub Placed : Config → (bundle records : List ℕ) → Decision → Type 0
 Placed config bundle records (Made start received) = (start ≡ place config (slotIn bundle)) × (start + recordSize ≤ length records)
 Placed config bundle records (Refused reason) = Unit

@@ -32,7 +32,8 @@ pub enum Announcement {
     Refused(Refusal),
 }
 
-// The answer of receiving (R8.6), with how many signers the record then has (R8.8).
+// The answer of receiving (R8.6), with how many signers the record then has (R8.8); and of a preview, with how many it
+// would have (R8.9).
 pub enum Receipt {
     Kept(u32),
     Signed(u32),
@@ -143,14 +144,13 @@ pub fn receive(config: Config, bundle: &[u8], records: &mut [u8], out: &mut [u8]
     }
 }
 
-// R8.9 to R8.12: what receiving the bundle would answer and leave in `out`. The records are lent for reading, and
-// nothing of it is sent.
+// R8.9 to R8.12: what receiving the bundle would answer and leave in `out`. The records are lent for reading, and what
+// `out` then has is not to be sent.
 pub fn preview(config: Config, bundle: &[u8], records: &[u8], out: &mut [u8]) -> Receipt
     ensures { λ r. ⌜ receiptOf r ≡ (receiveOf config (now (bundle .entry)) (now (records .entry)) (now (out .entry)) and-then λ result. done (reported result)) ⌝ }
     ensures { λ _. ⌜ now (out .exit) ≡ receiveOut config (now (bundle .entry)) (now (records .entry)) (now (out .entry)) ⌝ }
 {
-    let decision = decide(config, bundle, records, out);
-    match decision {
+    match decide(config, bundle, records, out) {
         Decision::Made(_, received) => answer(bundle, received, out),
         Decision::Refused(reason) => Receipt::Refused(reason),
     }

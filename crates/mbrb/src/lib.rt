@@ -88,6 +88,7 @@ fn announcement_code(announcement: Announcement) -> u32
     }
 }
 
+// The code of receiving, and of a preview.
 pub fn receipt_code(receipt: Receipt) -> u32
     ensures { λ r. ⌜ r ≡ reportedCode (receiptOf receipt) ⌝ }
 {

@@ -28,7 +28,7 @@ use Rattle.calls.specs.Broadcast as calls-broadcast
 use Rattle.calls.specs.Receive as calls-receive
 
 -- R14.3: opening a day, broadcasting a payload and receiving a bundle, with what the caller gives for outgoing bytes. The three byte strings may have any
--- content and any length. A preview (R8.12) is no call of the list, and nothing of it is sent: specs/Previews.antt.
+-- content and any length. A preview is no call of the list, and sends nothing (R8.12): specs/Previews.antt.
 pub data Call : Type 0 where
   Open : Call
   Broadcast : (payload out : List ℕ) → Call

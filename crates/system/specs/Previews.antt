@@ -1,5 +1,5 @@
 -- R14.20: a preview (R8.9) is no call of the list, wherever it is made. Here is what happens at the nodes with previews between the calls. However many there
--- are, and of whatever bundles, each call finds the records, and gives what it would give without them. It is proved in proofs/Previews.antt.
+-- are, and of whatever bundles, each call finds the records that it would find without them, and gives the same. It is proved in proofs/Previews.antt.
 -- Assumes nothing.
 use mathlib.Core.Path.{_≡_}
 use mathlib.Core.List.{List, [], _∷_}
@@ -20,7 +20,7 @@ callsOf (earlier then node calls Makes call) = callsOf earlier then node calls c
 callsOf (earlier then node calls Previews bundle out) = callsOf earlier
 
 module _ (s : System) where
-  -- the buffer as an event leaves it: to a preview it is lent for reading, and it has no other (R8.11)
+  -- the buffer as an event leaves it: to a preview it is lent for reading, and stays as it is (R8.11)
   unfoldable pub recordsAfterEvent : (node : ℕ) (event : Event) (records : List ℕ) → List ℕ
   recordsAfterEvent node (Makes call) records = recordsAfter s node call records
   recordsAfterEvent node (Previews bundle out) records = records

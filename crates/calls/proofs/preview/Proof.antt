@@ -19,7 +19,7 @@ use Rattle.calls.proofs.decide.Reads as decide-reads
 
 -- ---- what is known where a decision was made
 
-module _ (c : tie.After-decision) where
+module _ (c : tie.After-received) where
   abbrev entry : tie.Start
   entry = c .before .before .before .before .before .before .before
 
@@ -38,22 +38,22 @@ module _ (c : tie.After-decision) where
   bytes-known : Bytes bundle
   bytes-known i = c .before .before .before .before .before .before .shared-slice-known .given i .fits
 
-  made : receivedOf (c .decision .given .0 .1 .0) ≡ encodedUpdate (receive config bundle records out)
-  made = ap decisionOf (sym (c .decision .given .1)) ∙ c .before .before .decide .ensures .0
+  made : receivedOf (c .received .given .0 .1 .0) ≡ encodedUpdate (receive config bundle records out)
+  made = ap decisionOf (sym (c .received .given .1)) ∙ c .before .before .decide .ensures .0
 
 -- ---- the needs
 
 decide-requires : tie.Need-decide-requires
 decide-requires c κs = search needs
 
-enum-known-decision : tie.Need-enum-known-decision
-enum-known-decision c = search needs
+enum-known-received : tie.Need-enum-known-received
+enum-known-received c = search needs
 
 answer-requires : tie.Need-answer-requires
 answer-requires c κs = search needs
 
-enum-known-decision-2 : tie.Need-enum-known-decision-2
-enum-known-decision-2 c = search needs
+enum-known-reason : tie.Need-enum-known-reason
+enum-known-reason c = search needs
 
 same-length : tie.Need-same-length
 same-length c = search needs
@@ -74,7 +74,7 @@ same-length-2 c = search needs
 returns-2 : tie.Need-returns-2
 returns-2 c =
     let told = c .before .before .before in
-    let nothing = receive-no-effect _ _ _ _ _ (decided-refused _ _ _ _ _ (ap decisionOf (sym (c .before .decision2 .given .1)) ∙ told .decide .ensures .0)) in
+    let nothing = receive-no-effect _ _ _ _ _ (decided-refused _ _ _ _ _ (ap decisionOf (sym (c .before .reason .given .1)) ∙ told .decide .ensures .0)) in
     (nothing .0, nothing .1 .1)
 
 pub preview-spec : {M : Type 1} → statement M
@@ -82,9 +82,9 @@ preview-spec =
     tie.close
     (tie.spec
     decide-requires
-    enum-known-decision
+    enum-known-received
     answer-requires
-    enum-known-decision-2
+    enum-known-reason
     same-length
     returns
     same-length-2
