@@ -230,14 +230,15 @@
  *   - that the bundle would be kept, signed, delivered or refused, and why (section 8);
  *   - the signers that the record would have: at MBRB_SIGNED and MBRB_DELIVERED those in `out`, at MBRB_KEPT those of
  *     the record and of the bundle together.
- * It shows this as of now. A preview holds as long as the record of its slot stays the same: until a bundle of that slot
- * is taken, the day is opened, we announce in a slot of ours, or a restart loses an MBRB_KEPT that was not saved.
+ * It shows this as of now. A preview holds as long as the record of its slot stays the same: until a bundle of that
+ * slot is taken, the day is opened, we announce in a slot of ours, or a restart loses an MBRB_KEPT that was not saved.
  *
  * Before a preview the host does what it does before taking, or else taking would do something else than was shown:
  *   - It compares the days (section 4), under the lock that spans the preview (section 3). Where the clock's is later,
  *     taking opens the new day first, and there is nothing to show of the old one.
  *   - It copies the bundle, the key chip checks the signatures, and the bit of each that does not hold is cleared
- *     (section 6). Taking checks them again, or is given that very copy: never a bundle with bits that nobody has checked.
+ *     (section 6). Taking checks them again, or is given that very copy: never a bundle whose bits nobody has
+ *     checked.
  *
  * After a preview it does nothing of what it does after taking:
  *   - `out` is never sent, and no signature is made for it: our record would not know of that signature, which could be
