@@ -202,7 +202,7 @@
  *     mbrb_preview, 24 for mbrb_open, and for what the host's memset takes below it; besides, up to 40 bytes of
  *     arguments that the caller puts there. These are the frames of the machine code, return addresses included;
  *     tests/footprint sees the same on a stack that was painted before.
- *   - Code: 1,705 bytes, and 953 more where mbrb_preview is used: it is a member of its own in the library, and a host
+ *   - Code: 1,695 bytes, and 953 more where mbrb_preview is used: it is a member of its own in the library, and a host
  *     that does not call it does not link it. No vector or floating-point register is used. The one symbol that the
  *     library takes from the host is memset, for mbrb_open.
  *   - mbrb_receive uses 16 bytes below the stack pointer (the red zone of the calling convention), and mbrb_preview 8,

@@ -64,7 +64,7 @@ fn step(
         node.forget();
     }
     tally.lives += u64::from(node.completes_life(&case, code));
-    // Nothing of a preview is sent.
+    // What a preview puts out stays where it is.
     if code > 100 && case.kind != Kind::Preview {
         system.keep_sent(random, &out);
     }

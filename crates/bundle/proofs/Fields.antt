@@ -17,7 +17,7 @@ use Rattle.payload.specs.Payload.{payloadSize, bytes, loaded}
 use Rattle.config.specs.declared.Slot.{Slot}
 use Rattle.bundle.specs.declared.Header.{Header}
 use Rattle.bundle.specs.Bundle.{bundleSize, payloadStart, bundleOf, slotIn, headerIn, payloadIn, payloadLoaded, encoded, slotOf}
-use Rattle.bundle.specs.Inner.{resigned}
+use Rattle.bundle.specs.Inner.{encodedLike}
 
 -- the first word of a bundle, by its slot
 abbrev pub slotWord : Slot → ℕ
@@ -109,17 +109,17 @@ pub loaded-payload : (bundle : List ℕ) → length bundle ≡ bundleSize → pa
 unfolding payloadLoaded
 loaded-payload bundle l = rw (eq-eqb (length bundle) bundleSize l)
 
--- four words filled in are a bundle with other signers, where the first is the bundle's and the last two are its payload
-pub filled-resigned : (bundle out result : List ℕ) (signers first : ℕ) (payload : Payload) → length bundle ≡ bundleSize → Bytes bundle
-    → first ≡ wordOf (part 0 8 bundle) → bytes payload ≡ payloadLoaded bundle → result ≡ filled out first signers (payload .high) (payload .low)
-    → result ≡ resigned bundle signers out
-unfolding filled words resigned bytes
-filled-resigned bundle out result signers first payload l known is held e =
+-- four words filled in are a bundle in the slot of another one, where the first is that one's
+pub filled-like : (bundle out result : List ℕ) (signers first : ℕ) (payload : Payload) → length bundle ≡ bundleSize → Bytes bundle
+    → first ≡ wordOf (part 0 8 bundle) → result ≡ filled out first signers (payload .high) (payload .low)
+    → result ≡ encodedLike bundle signers (bytes payload) out
+unfolding filled words encodedLike bytes
+filled-like bundle out result signers first payload l known is e =
     e
-    ∙ ap₂ (λ (a b : List ℕ). cond (eqb (length out) bundleSize) (a ++ (bytesOf 8 signers ++ b)) out)
-    (ap (bytesOf 8) is ∙ word-bytes bundle 0 (omega arith) known) (held ∙ loaded-payload bundle l)
+    ∙ ap (λ (a : List ℕ). cond (eqb (length out) bundleSize) (a ++ (bytesOf 8 signers ++ bytes payload)) out)
+    (ap (bytesOf 8) is ∙ word-bytes bundle 0 (omega arith) known)
     ∙ rw (eq-eqb (length bundle) bundleSize l)
 
-pub resigned-none : (bundle out : List ℕ) (signers : ℕ) → (length bundle ≡ bundleSize → ⊥) → out ≡ resigned bundle signers out
-unfolding resigned
-resigned-none bundle out signers l = rw (ne-eqb (length bundle) bundleSize l)
+pub like-none : (bundle out payload : List ℕ) (signers : ℕ) → (length bundle ≡ bundleSize → ⊥) → out ≡ encodedLike bundle signers payload out
+unfolding encodedLike
+like-none bundle out payload signers l = rw (ne-eqb (length bundle) bundleSize l)

@@ -23,7 +23,7 @@ use Rattle.config.specs.Config.{good, slotOfDay}
 use Rattle.config.proofs.Laws.{good-says}
 use Rattle.bundle.specs.declared.Header.{Header}
 use Rattle.bundle.specs.Bundle.{bundleSize, payloadStart, bundleOf, slotIn, headerIn, payloadIn, headerReasons, read, payloadPart, headerOf, headerOfDay}
-use Rattle.bundle.specs.Inner.{resigned}
+use Rattle.bundle.specs.Inner.{encodedLike}
 use Rattle.bundle.specs.RoundTrip.{WrittenReadsBack, AcceptedWritesBack}
 use Rattle.bundle.proofs.Accepted.{Readable, accepted-readable, readable-accepted, accepted-payload, written-writable, writable-written}
 
@@ -118,11 +118,11 @@ accepted-writes-back reader writer h bundle out peers bytes l e =
     })
     ∙ ap done (rw (again, rest, ← same) (together bundle bytes long (ok .sixth) (ok .seventh)))
 
--- an accepted bundle with other signers is the bundle of its slot with these signers and its payload
-pub resigned-accepted : (config : Config) (bundle out : List ℕ) (h : Header) (signers : ℕ) → Bytes bundle → read config bundle ≡ done h → length out ≡ bundleSize
-    → resigned bundle signers out ≡ bundleOf (headerOf (slotIn bundle) signers) (payloadIn bundle)
-unfolding resigned bundleOf slotIn
-resigned-accepted config xs out h signers bytes e room =
+-- in the slot of an accepted bundle it is the bundle of that slot
+pub like-accepted : (config : Config) (bundle out payload : List ℕ) (h : Header) (signers : ℕ) → Bytes bundle → read config bundle ≡ done h → length out ≡ bundleSize
+    → encodedLike bundle signers payload out ≡ bundleOf (headerOf (slotIn bundle) signers) payload
+unfolding encodedLike bundleOf slotIn
+like-accepted config xs out payload h signers bytes e room =
     let ok : Readable config xs = accepted-readable config xs h e .0 in
     let long : length xs ≡ bundleSize = ok .long in
     let four : part 0 4 xs ≡ bytesOf 4 (number (part 0 4 xs)) = sym (number-part xs 0 4 bytes (omega arith)) in
@@ -130,4 +130,4 @@ resigned-accepted config xs out h signers bytes e room =
     sym (elements-part xs 4 4 (omega arith)) ∙ ap₂ (λ (a b : ℕ). getD xs 4 0 ∷ getD xs 5 0 ∷ a ∷ b ∷ []) (ok .sixth) (ok .seventh) in
     let first : part 0 8 xs ≡ bytesOf 4 (number (part 0 4 xs)) ++ (getD xs 4 0 ∷ getD xs 5 0 ∷ 0 ∷ 0 ∷ []) = take-add 4 4 xs ∙ ap₂ _++_ four middle in
     rw (eq-eqb (length xs) bundleSize long, eq-eqb (length out) bundleSize room)
-    (ap (λ (r : List ℕ). r ++ (bytesOf 8 signers ++ payloadIn xs)) first ∙ append-assoc (bytesOf 4 (number (part 0 4 xs))) _ _)
+    (ap (λ (r : List ℕ). r ++ (bytesOf 8 signers ++ payload)) first ∙ append-assoc (bytesOf 4 (number (part 0 4 xs))) _ _)

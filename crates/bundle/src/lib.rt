@@ -1,7 +1,7 @@
 // Reading and writing a bundle: the 32 bytes in which nodes send each other a signed payload (R3.1).
 //
 // Every function is defined for all bytes, lengths and numbers (R1.4). Reading and writing refuse by the
-// first reason that applies (R5.2); `load_payload`, `encode` and `with_signers` check nothing but lengths.
+// first reason that applies (R5.2); `load_payload`, `encode` and `encode_like` check nothing but lengths.
 use config::Config;
 use payload::Payload;
 use refusal::Refusal;
@@ -14,7 +14,7 @@ ghost use Rattle.refusal.specs.Refusal.{verdictOf};
 ghost use Rattle.refusal.specs.Outcome.{unless, after, plain};
 ghost use Rattle.config.specs.Config.{good};
 ghost use Rattle.bundle.specs.Bundle.{encoded, headerReasons, read as readOf, readingOf, payloadPart, payloadPlace, payloadLoaded, write as writeOf, writeOut};
-ghost use Rattle.bundle.specs.Inner.{resigned};
+ghost use Rattle.bundle.specs.Inner.{encodedLike};
 
 // A bundle's bytes.
 pub const SIZE: usize = 32;
@@ -133,16 +133,15 @@ pub fn encode(header: Header, payload: Payload, out: &mut [u8])
     octets::fill(out, first, header.signers, payload.high, payload.low);
 }
 
-// A bundle with other signers: slot and payload are copied, and whether `read` accepts them is not asked. If either slice
-// has another length, `out` stays as it is.
-pub fn with_signers(bundle: &[u8], signers: u64, out: &mut [u8])
-    ensures { λ _. ⌜ now (out .exit) ≡ resigned (now (bundle .entry)) signers (now (out .entry)) ⌝ }
+// The 32 bytes of a bundle in the slot of another one, whose first eight bytes are copied: no field is checked, of
+// neither. If a slice has another length, `out` stays as it is.
+pub fn encode_like(bundle: &[u8], signers: u64, payload: Payload, out: &mut [u8])
+    ensures { λ _. ⌜ now (out .exit) ≡ encodedLike (now (bundle .entry)) signers (bytes payload) (now (out .entry)) ⌝ }
 {
     if bundle.len() != SIZE {
         return;
     }
     let slot = octets::word(&bundle[0..8]);
-    let payload = load_payload(bundle);
     octets::fill(out, slot, signers, payload.high, payload.low);
 }
 

@@ -1,26 +1,27 @@
 -- What becomes of a decision, in the answer and in the two buffers, is what receiving says. From the laws of well-formed records.
 -- Assumes nothing.
-use mathlib.Core.Path.{_≡_, refl, sym, ap, _∙_}
+use mathlib.Core.Path.{_≡_, refl, sym, ap, ap₂, _∙_}
 use mathlib.Core.Bool.{true, false, cond}
 use mathlib.Core.List.{List}
 use Prim.Native.Nat.{ℕ}
 use lib.ListN.{length}
 use Rattle.signers.specs.Signers as signers
 use Rattle.octets.specs.Octets.{Bytes}
+use Rattle.payload.specs.Payload as payload
 use Rattle.refusal.specs.Outcome.{Outcome, refused, done, after, checked, _and-then_}
 use Rattle.refusal.proofs.Reasons.{refused-not-done}
 use Rattle.config.specs.declared.Config.{Config}
 use Rattle.config.specs.Config.{quorum, place, recordsSize}
 use Rattle.config.proofs.Laws.{good-says}
 use Rattle.bundle.specs.declared.Header.{Header}
-use Rattle.bundle.specs.Bundle.{bundleOf, read, payloadIn, payloadPart, slotIn, slotOf, headerOf}
-use Rattle.bundle.specs.Inner.{resigned}
-use Rattle.bundle.proofs.RoundTrip.{resigned-accepted}
+use Rattle.bundle.specs.Bundle.{bundleOf, read, payloadPart, slotIn, slotOf, headerOf}
+use Rattle.bundle.specs.Inner.{encodedLike}
+use Rattle.bundle.proofs.RoundTrip.{like-accepted}
 use Rattle.protocol.specs.Update.{Answer, signersOf, payloadOf, isEmpty, sends, Update, update}
 use Rattle.protocol.proofs.WellFormed.{WellFormed, update-well-formed, update-payload}
 use Rattle.record.specs.declared.Record as held
-use Rattle.record.specs.Record.{encoding, signersField, bytes, decoded, wellFormed, encodedUpdate}
-use Rattle.record.proofs.Words.{Fits, signers-words}
+use Rattle.record.specs.Record.{encoding, signersField, payloadField, bytes, decoded, wellFormed, encodedUpdate}
+use Rattle.record.proofs.Words.{Fits, signers-words, payload-words}
 use Rattle.record.proofs.Encoding.{decoded-well-formed, encoding-fields}
 use Rattle.calls.specs.Records.{recordAt, stored}
 use Rattle.calls.specs.Receive.{recordBundle, receiveReasons, receive, receiveRecords, receiveOut, reported}
@@ -58,17 +59,14 @@ module _ (config : Config) (bundle records out : List ℕ) where
       go (refused number) e f = absurd (refused-not-done number result f)
       go (done h) e f = (h, e)
 
-  -- its record is read back from its bytes, and has the bundle's payload
+  -- and its record is read back from its bytes
   result-fields : (result : Update) → receive config bundle records out ≡ done result
-      → (signersField (encoding (result .newRecord)) ≡ signersOf (result .newRecord)) × (payloadOf (result .newRecord) ≡ payloadIn bundle)
+      → (signersField (encoding (result .newRecord)) ≡ signersOf (result .newRecord)) × (payloadField (encoding (result .newRecord)) ≡ payloadOf (result .newRecord))
   result-fields result o =
       let (h, e) = receive-read result o in
       let (_, size, taken, formed) = receive-done config bundle records out h e result o in
-      let ok = read-says config bundle h e in
-      let (some, fine) = result-well-formed config bundle records out h e size formed (o ∙ sym taken) result o in (
-        encoding-fields (config .n) (h .sender) (quorum config) (config .own) (good-says config (ok .configured) .most) (result .newRecord) some fine .0,
-        update-payload (config .own) (quorum config) (h .signers) (payloadPart config bundle) (decoded (recordAt config (slotOf h) records)) result taken .1 ∙ ok .payload,
-      )
+      let (some, fine) = result-well-formed config bundle records out h e size formed (o ∙ sym taken) result o in
+      encoding-fields (config .n) (h .sender) (quorum config) (config .own) (good-says config (read-says config bundle h e .configured) .most) (result .newRecord) some fine
 
   -- the answer and the number of signers,
   pub settled-receipt : settledReceipt (encodedUpdate (receive config bundle records out)) ≡ (receive config bundle records out and-then λ result. done (reported result))
@@ -103,9 +101,8 @@ module _ (config : Config) (bundle records out : List ℕ) where
           let (h, e) = receive-read result q in
           let room = receive-done config bundle records out h e result q .0 in
           ap (λ (ys : List ℕ). cond (sends (result .answer)) ys out)
-          (ap (λ (x : ℕ). resigned bundle x out) s
-          ∙ resigned-accepted config bundle out h (signersOf (result .newRecord)) bytes e room
-          ∙ ap (bundleOf (headerOf (slotIn bundle) (signersOf (result .newRecord)))) (sym p))
+          (ap₂ (λ (x : ℕ) (ys : List ℕ). encodedLike bundle x ys out) s p
+          ∙ like-accepted config bundle out (payloadOf (result .newRecord)) h (signersOf (result .newRecord)) bytes e room)
 
   -- where receiving refuses, the decision does, and the other way round
   pub refused-decided : (number : ℕ) → receive config bundle records out ≡ refused number → refused number ≡ encodedUpdate (receive config bundle records out)
@@ -120,13 +117,14 @@ module _ (config : Config) (bundle records out : List ℕ) where
       go (refused other) q f = let same : other ≡ number = cc in q ∙ ap refused same
       go (done result) q f = absurd (refused-not-done number (result .answer, encoding (result .newRecord)) f)
 
--- what is told of a record that came of a bundle, and written if the answer sends, goes by the signers in the record's bytes
+-- what is told of a record that came of a bundle, and written if the answer sends, goes by the fields in the record's bytes
 pub settled-record : (bundle out written : List ℕ) (r : held.Record) (answer : Answer) (count : ℕ) → Fits r → count ≡ signers.size (r .signers)
-    → written ≡ cond (sends answer) (resigned bundle (r .signers) out) out
+    → written ≡ cond (sends answer) (encodedLike bundle (r .signers) (payload.bytes (r .payload)) out) out
     → (done (answer, count) ≡ settledReceipt (done (answer, bytes r))) × (written ≡ settledOut bundle (done (answer, bytes r)) out)
 unfolding settledReceipt settledOut
 settled-record bundle out written r answer count fits counted e =
-    let same : r .signers ≡ signersField (bytes r) = sym (signers-words r fits) in (
-      ap (λ (k : ℕ). done (answer, k)) (counted ∙ ap signers.size same),
-      e ∙ ap (λ (k : ℕ). cond (sends answer) (resigned bundle k out) out) same,
+    let signed-by : r .signers ≡ signersField (bytes r) = sym (signers-words r fits) in
+    let carried : payload.bytes (r .payload) ≡ payloadField (bytes r) = sym (payload-words r fits) in (
+      ap (λ (k : ℕ). done (answer, k)) (counted ∙ ap signers.size signed-by),
+      e ∙ ap₂ (λ (k : ℕ) (ys : List ℕ). cond (sends answer) (encodedLike bundle k ys out) out) signed-by carried,
     )

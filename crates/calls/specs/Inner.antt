@@ -16,7 +16,7 @@ use Rattle.config.specs.declared.Config.{Config}
 use Rattle.config.specs.declared.Slot.{Slot}
 use Rattle.config.specs.Config.{quorum, slots, recordSize, place}
 use Rattle.bundle.specs.Bundle.{bundleOf, headerOf, slotIn}
-use Rattle.bundle.specs.Inner.{resigned}
+use Rattle.bundle.specs.Inner.{encodedLike}
 use Rattle.protocol.specs.Update.{Answer, sends}
 use Rattle.record.specs.Record.{signersField, payloadField, wellFormed, receivedOf}
 use Rattle.calls.specs.declared.Decision.{Decision}
@@ -45,7 +45,7 @@ unfoldable pub settledRecords : ℕ → Outcome (Answer × List ℕ) → List �
 settledRecords start received records = after received (λ result. replaced start (result .1) records) records
 
 unfoldable pub settledOut : (bundle : List ℕ) → Outcome (Answer × List ℕ) → (out : List ℕ) → List ℕ
-settledOut bundle received out = after received (λ result. cond (sends (result .0)) (resigned bundle (signersField (result .1)) out) out) out
+settledOut bundle received out = after received (λ result. cond (sends (result .0)) (encodedLike bundle (signersField (result .1)) (payloadField (result .1)) out) out) out
 
 -- sets and quorum are those of the configuration
 abbrev pub SetsOf : Config → ℕ → ℕ → ℕ → Type 0

@@ -137,8 +137,9 @@ pub fn receive(config: Config, bundle: &[u8], records: &mut [u8], out: &mut [u8]
 {
     match decide(config, bundle, records, out) {
         Decision::Made(start, received) => {
+            let receipt = answer(bundle, received, out);
             store(start, received, records);
-            answer(bundle, received, out)
+            receipt
         }
         Decision::Refused(reason) => Receipt::Refused(reason),
     }
@@ -278,8 +279,8 @@ fn store(start: usize, received: Received, records: &mut [u8])
     }
 }
 
-// R8.6 to R8.8: the answer to a bundle, and what goes out. The record's bundle is the one that came in, with the record's
-// signers.
+// R8.6 to R8.8: the answer to a bundle, and what goes out: the record's bundle, which is in the slot of the one that came
+// in.
 fn answer(bundle: &[u8], received: Received, out: &mut [u8]) -> Receipt
     ensures { λ r. ⌜ receiptOf r ≡ settledReceipt (receivedOf received) ⌝ }
     ensures { λ _. ⌜ now (out .exit) ≡ settledOut (now (bundle .entry)) (receivedOf received) (now (out .entry)) ⌝ }
@@ -287,11 +288,11 @@ fn answer(bundle: &[u8], received: Received, out: &mut [u8]) -> Receipt
     match received {
         Received::Kept(record) => Receipt::Kept(signers::size(record.signers)),
         Received::Signed(record) => {
-            bundle::with_signers(bundle, record.signers, out);
+            bundle::encode_like(bundle, record.signers, record.payload, out);
             Receipt::Signed(signers::size(record.signers))
         }
         Received::Delivered(record) => {
-            bundle::with_signers(bundle, record.signers, out);
+            bundle::encode_like(bundle, record.signers, record.payload, out);
             Receipt::Delivered(signers::size(record.signers))
         }
         Received::Refused(reason) => Receipt::Refused(reason),

@@ -7,7 +7,7 @@ use Rattle.calls.proofs.Settling.{settled-record}
 use borrow.Author.Needs.{needs}
 use Rattle.calls.proofs.answer.Statement.{statement}
 use Rattle.calls.proofs.answer.Tie as tie
-use Rattle.bundle.proofs.with_signers.Reads as with-signers-reads
+use Rattle.bundle.proofs.encode_like.Reads as encode-like-reads
 use Rattle.signers.proofs.size.Reads as size-reads
 
 -- the words of the record fit, in each case, as their types say
@@ -31,8 +31,8 @@ size-requires c κs = search needs
 enum-known-received-2 : tie.Need-enum-known-received-2
 enum-known-received-2 c = search needs
 
-with-signers-requires : tie.Need-with-signers-requires
-with-signers-requires c κs = search needs
+encode-like-requires : tie.Need-encode-like-requires
+encode-like-requires c κs = search needs
 
 size-requires-2 : tie.Need-size-requires-2
 size-requires-2 c κs = search needs
@@ -40,8 +40,8 @@ size-requires-2 c κs = search needs
 enum-known-received-3 : tie.Need-enum-known-received-3
 enum-known-received-3 c = search needs
 
-with-signers-requires-2 : tie.Need-with-signers-requires-2
-with-signers-requires-2 c κs = search needs
+encode-like-requires-2 : tie.Need-encode-like-requires-2
+encode-like-requires-2 c κs = search needs
 
 size-requires-3 : tie.Need-size-requires-3
 size-requires-3 c κs = search needs
@@ -62,7 +62,7 @@ returns-2 : tie.Need-returns-2
 returns-2 c =
     let written = c .before .before .before in
     let told = written .before .before in
-    rw (told .before .received2 .given .1) (settled-record _ _ _ _ _ _ (fits-signed told) (c .size2 .ensures) (written .with-signers .ensures))
+    rw (told .before .received2 .given .1) (settled-record _ _ _ _ _ _ (fits-signed told) (c .size2 .ensures) (written .encode-like .ensures))
 
 same-length-2 : tie.Need-same-length-2
 same-length-2 c = search needs
@@ -71,7 +71,7 @@ returns-3 : tie.Need-returns-3
 returns-3 c =
     let written = c .before .before .before in
     let told = written .before .before in
-    rw (told .before .received3 .given .1) (settled-record _ _ _ _ _ _ (fits-delivered told) (c .size3 .ensures) (written .with-signers2 .ensures))
+    rw (told .before .received3 .given .1) (settled-record _ _ _ _ _ _ (fits-delivered told) (c .size3 .ensures) (written .encode-like2 .ensures))
 
 returns-4 : tie.Need-returns-4
 unfolding settledReceipt settledOut
@@ -84,10 +84,10 @@ answer-spec =
     enum-known-received
     size-requires
     enum-known-received-2
-    with-signers-requires
+    encode-like-requires
     size-requires-2
     enum-known-received-3
-    with-signers-requires-2
+    encode-like-requires-2
     size-requires-3
     enum-known-received-4
     returns

@@ -54,11 +54,11 @@ decide-requires c κs = search needs
 enum-known-start : tie.Need-enum-known-start
 enum-known-start c = search needs
 
-store-requires : tie.Need-store-requires
-store-requires c κs = found (c .before .before) .1
-
 answer-requires : tie.Need-answer-requires
 answer-requires c κs = search needs
+
+store-requires : tie.Need-store-requires
+store-requires c κs = found (c .before .before .before .before .before .before) .1
 
 enum-known-reason : tie.Need-enum-known-reason
 enum-known-reason c = search needs
@@ -71,9 +71,9 @@ same-length-2 c = search needs
 
 returns : tie.Need-returns
 returns c =
-    let answered = c .before .before in
-    let stored = answered .before .before .before .before in
-    let told = stored .before .before .before in (
+    let stored = c .before .before in
+    let answered = stored .before .before .before .before in
+    let told = answered .before .before .before in (
       answered .answer .ensures .0 ∙ ap settledReceipt (made told) ∙ settled-receipt _ _ _ _,
       (
         stored .store .ensures
@@ -102,8 +102,8 @@ receive-spec =
     (tie.spec
     decide-requires
     enum-known-start
-    store-requires
     answer-requires
+    store-requires
     enum-known-reason
     same-length
     same-length-2
