@@ -1,8 +1,9 @@
 /* mbrb: announcements among the units of a cascade, without a master. The C interface, for C99 and C++11.
  *
  * A cascade has n units. Any t of them may be faulty, and each sending may miss d sound ones; n > 3t + 2d. A unit
- * announces a body of 16 bytes, takes the bundles that come in, and sends what the calls tell it to send. No two sound
- * units deliver different bodies in one slot (a day, a sender, a number from 0 to 15), whatever faulty units send and
+ * announces a body of 16 bytes, takes the bundles that come in, and sends what the calls tell it to send. It delivers a
+ * body once a quorum of units has signed it; how many these are, the site chooses (section 7). No two sound units
+ * deliver different bodies in one slot (a day, a sender, a number from 0 to 15), whatever faulty units send and
  * whatever is lost, late, twice or out of order. This is proved of lists of calls of mbrb_open, mbrb_broadcast and
  * mbrb_receive, with every code and byte that they give; section 9 says what is argued of hosts that keep to this page.
  * The fourth function, mbrb_preview, tells a display what taking a bundle would do, and does nothing of it. Every host
@@ -55,13 +56,15 @@
  * The records do not hold their day, so no call notices records of yesterday. With yesterday's records a unit refuses
  * today's bundle by 22 if that slot was delivered yesterday; or it sends a bundle of today with its bit, although it
  * has signed that body yesterday only. So keep the day beside the records, in one block that is saved together, and
- * give each call the day of the block, never that of the clock. n, t, d and own go with them: they change with a new day
- * only. The clock decides when a new day is opened. Compare the two before calls:
+ * give each call the day of the block, never that of the clock. The quorum lies beside the day: each call gets the
+ * block's, which is the one that the day was opened with. n, t, d and own go with them too: all these change with a new
+ * day only. The clock decides when a new day is opened. Compare the two before calls:
  *   - the clock's day is the block's: go on;
- *   - it is later: the block's day is over. Open the new day (mbrb_open), see that the code is MBRB_OPENED, and save
- *     records and new day before the first call of that day, all or nothing: after a loss of power the block is the old
- *     day with its records or the new day with zeros, never the old day with zeros nor the new day with old records.
- *     Bodies that are still to be acted on stay in the block; what is still to be sent may go;
+ *   - it is later: the block's day is over. Open the new day (mbrb_open), with the quorum that the site has set for it,
+ *     see that the code is MBRB_OPENED, and save records, new day and its quorum before the first call of that day, all
+ *     or nothing: after a loss of power the block is the old day with its records or the new day with zeros, never the
+ *     old day with zeros nor the new day with old records. Bodies that are still to be acted on stay in the block; what
+ *     is still to be sent may go;
  *   - it is earlier: the clock is wrong or was set back. Stay with the block. A day that was opened once is never
  *     opened again.
  * A clock that jumps ahead opens a day that the others have not opened, and the unit counts as faulty until they have.
@@ -89,9 +92,9 @@
  *
  * 5. After a restart
  *
- *   1. Load the block as it was saved last: day, records, each `out` that is still to be sent, each body that is still to
- *      be acted on, and the signatures of section 6. An older copy is not it. If that cannot be done, the unit has
- *      forgotten what it signed: go to "A lost block" below.
+ *   1. Load the block as it was saved last: day, quorum, records, each `out` that is still to be sent, each body that
+ *      is still to be acted on, and the signatures of section 6. An older copy is not it. If that cannot be done, the
+ *      unit has forgotten what it signed: go to "A lost block" below.
  *   2. Act on each body that is still to be acted on. The calls do not tell it again: they answer 22 from now on. Where
  *      power fails between acting and noting it, it is acted on twice; where that does harm, note it first.
  *   3. Compare the block's day with the clock's, as in section 4. If the clock's is later, open the new day and go on at
@@ -133,10 +136,21 @@
  *     that is 16 KiB with 4 units, 64 KiB with 8, and 4 MiB with 64.
  *
  *
- * 7. The cascade and its radio
+ * 7. The cascade, its quorum and its radio
  *
- *   - n, t, d and day are the same at all units, and own is different at each. At most t units are faulty; a unit that
- *     breaks sections 3 to 6, or sends or signs for what a preview left, is one of them.
+ *   - n, t, d, day and quorum are the same at all units, and own is different at each. At most t units are faulty; a
+ *     unit that breaks sections 3 to 6, or sends or signs for what a preview left, is one of them.
+ *   - The quorum is how many units have to sign a body before a unit delivers it. The site chooses it, for all its
+ *     units alike: at least MBRB_LEAST_QUORUM(n, t), which ordinary sites take, and at most MBRB_MOST_QUORUM(n, t, d).
+ *     With another one every call refuses (1). A stricter one than the least is for sites that want more signatures
+ *     before a body is acted on, hospitals for instance. It costs time: bodies may be delivered later, and one of a
+ *     faulty sender perhaps not at all. All that this page says holds for each quorum from the least to the most: with
+ *     the most, too, bodies are delivered while t units are faulty and each sending misses d. With more faults or
+ *     losses than that, the stricter a quorum is, the sooner it is out of reach.
+ *   - The quorum changes between days only, and at all units together: set it at all of them, with the day from which
+ *     it holds, before the first of them opens that day. A unit whose quorum differs from the others' on a day is
+ *     outside of what is promised, and counts as faulty for that day. With a stricter quorum on the same day a record
+ *     that was delivered with fewer signers is not sound any more (21).
  *   - The same bytes may be sent again, at any time and by anybody. To take them once more changes nothing, unless a
  *     restart has lost what they had changed.
  *   - For delivery each bundle that a sound unit sends comes to be taken at all sound units but d. It does not matter
@@ -153,7 +167,8 @@
  *
  * 8. What to do at a refusal
  *
- *   1, 9, 10, 20   a mistake in the host: a wrong table or length
+ *   1, 9, 10, 20   a mistake in the host: a wrong table or length. With a quorum out of range no day is opened (1), so
+ *                  look at it when the site sets it
  *   2, 3, 5 to 8   noise on the radio, or a faulty unit: drop the bundle
  *   4              a bundle of another day: early or late, or a clock is wrong there or here
  *   22             usual: others send on what they deliver
@@ -162,11 +177,12 @@
  *   25             no more announcements until the next day
  *
  * 21, MBRB_UNSOUND_RECORD: the record is not one that these calls leave. The day was not opened (which is not noticed
- * where the bytes happen to be zero), the table is another one, 32 bytes are half old and half new, or something else
- * wrote there. Make no more calls on these records, do not repair them, and do not open this day again. Where a copy
- * holds exactly what was saved last, load it as after a restart; if 21 or 23 comes again after that, do not load again.
- * Otherwise the unit is silent until it opens a day that is later than the last opened day kept apart (section 5), since
- * the day in the block may be damaged too; the others bear that, as one of their t.
+ * where the bytes happen to be zero), the table is another one (with a stricter quorum, for instance), 32 bytes are
+ * half old and half new, or something else wrote there. Make no more calls on these records, do not repair them, and do
+ * not open this day again. Where a copy holds exactly what was saved last, load it as after a restart; if 21 or 23
+ * comes again after that, do not load again. Otherwise the unit is silent until it opens a day that is later than the
+ * last opened day kept apart (section 5), since the day in the block may be damaged too; the others bear that, as one
+ * of their t.
  *
  * 23, MBRB_OWN_SIGNATURE_UNKNOWN: the bundle has our bit, and our record does not hold its body. Let the key chip look
  * at our signature again.
@@ -181,9 +197,10 @@
  * none, that taking and announcing write to the record of their slot and to no other, that taking answers by this
  * record, the input, the table and the lengths, and announcing by our own sixteen records besides, that a preview gives
  * taking's code and `out` and leaves the records, and that a call ends.
- * Proved of whole lists of calls at sound units: agreement, at most one delivery and two sendings in a slot, only
- * announced bodies in a sound sender's slots, and delivery as in section 7; that 21 does not come there, nor 23 where
- * the bits are true; and that previews between the calls change nothing of it. docs/CLAIMS.md has each with its file.
+ * Proved of whole lists of calls at sound units, for each quorum that is allowed: agreement, at most one delivery and
+ * two sendings in a slot, only announced bodies in a sound sender's slots, and delivery as in section 7; that 21 does
+ * not come there, nor 23 where the bits are true; and that previews between the calls change nothing of it.
+ * docs/CLAIMS.md has each with its file.
  *
  * Argued and not proved: that a host which keeps to sections 3 to 7, and to 12, is such a list. The lists know no
  * restart. A call whose change was lost before anything of it was sent or acted on is left out of the list: its answer
@@ -199,10 +216,10 @@
  *   - Memory: MBRB_RECORDS_SIZE(n) bytes of records, which the host gives. The library allocates nothing and has no
  *     data of its own.
  *   - Stack: 584 bytes for mbrb_broadcast with all sixteen numbers used (72 with none), 72 for mbrb_receive, 64 for
- *     mbrb_preview, 24 for mbrb_open, and for what the host's memset takes below it; besides, up to 40 bytes of
+ *     mbrb_preview, 24 for mbrb_open, and for what the host's memset takes below it; besides, up to 48 bytes of
  *     arguments that the caller puts there. These are the frames of the machine code, return addresses included;
  *     tests/footprint sees the same on a stack that was painted before.
- *   - Code: 1,695 bytes, and 953 more where mbrb_preview is used: it is a member of its own in the library, and a host
+ *   - Code: 1,705 bytes, and 966 more where mbrb_preview is used: it is a member of its own in the library, and a host
  *     that does not call it does not link it. No vector or floating-point register is used. The one symbol that the
  *     library takes from the host is memset, for mbrb_open.
  *   - mbrb_receive uses 16 bytes below the stack pointer (the red zone of the calling convention), and mbrb_preview 8,
@@ -259,10 +276,10 @@ extern "C" {
 #endif
 
 /* The version of this interface and of the formats below. CHANGELOG.md says what each number stands for. */
-#define MBRB_VERSION_MAJOR 1
-#define MBRB_VERSION_MINOR 1
+#define MBRB_VERSION_MAJOR 2
+#define MBRB_VERSION_MINOR 0
 #define MBRB_VERSION_PATCH 0
-#define MBRB_VERSION "1.1.0"
+#define MBRB_VERSION "2.0.0"
 
 /* Sizes of the buffers, in bytes. */
 #define MBRB_BODY_SIZE 16
@@ -272,8 +289,12 @@ extern "C" {
 #define MBRB_RECORDS_SIZE(n) ((size_t)(n) * MBRB_NUMBERS * MBRB_RECORD_SIZE)
 #define MBRB_UNITS_MAX 64
 
-/* How many signers deliver a body, with a good table. */
-#define MBRB_QUORUM(n, t) (((unsigned)(n) + (unsigned)(t)) / 2u + 1u)
+/* The least and the most quorum that a site may choose (section 7), where n > 3t + 2d. Each is a uint32_t, is constant
+ * where its arguments are, and evaluates each of them once. Where n <= 3t + 2d no quorum is allowed, and neither number
+ * is of use: with n < t + d the most has wrapped round to almost 2 to the power 32. All of it is unsigned arithmetic,
+ * which cannot trap. Whether a table is good is for the calls to say (1). */
+#define MBRB_LEAST_QUORUM(n, t) ((uint32_t)(((uint32_t)(n) + (uint32_t)(t)) / 2u + 1u))
+#define MBRB_MOST_QUORUM(n, t, d) ((uint32_t)((uint32_t)(n) - (uint32_t)(t) - (uint32_t)(d)))
 
 /* A bundle, integers with the high byte first: where its fields start. The two bytes between number and signers are zero. */
 #define MBRB_DAY_AT 0     /* 4 bytes */
@@ -306,7 +327,8 @@ extern "C" {
 
 /* Refusals, 1 to 99: the first that applies in this order. No byte has changed. In brackets the calls that may give it:
  * O mbrb_open, B mbrb_broadcast, R mbrb_receive, P mbrb_preview. */
-#define MBRB_BAD_TABLE 1               /* [O B R P] n not 1 to 64, or n <= 3t + 2d, or own >= n */
+#define MBRB_BAD_TABLE 1               /* [O B R P] n not 1 to 64, or n <= 3t + 2d, or own >= n, or the quorum below
+                                                    MBRB_LEAST_QUORUM(n, t) or above MBRB_MOST_QUORUM(n, t, d) */
 #define MBRB_BUNDLE_LENGTH 2           /* [R P]     the bundle has not 32 bytes */
 #define MBRB_RESERVED_BYTES 3          /* [R P]     byte 6 or 7 of the bundle is not zero */
 #define MBRB_OTHER_DAY 4               /* [R P]     the bundle is of another day */
@@ -326,26 +348,28 @@ extern "C" {
                                                     sender said two things */
 #define MBRB_NO_FREE_NUMBER 25         /* [B]       our sixteen numbers of the day are used up */
 
+/* Each function takes the table first: n, t, d, own, day and quorum; all but own are the same at all units. */
+
 /* Opens a day: sets every byte of the records to zero. Once for a day, before its first call, and not again after a
- * restart (sections 4 and 5). The day has no part in the bytes: keep it beside them. */
-uint32_t mbrb_open(uint8_t n, uint8_t t, uint8_t d, uint8_t own, uint32_t day,
+ * restart (sections 4 and 5). Day and quorum have no part in the bytes: keep both beside them. */
+uint32_t mbrb_open(uint8_t n, uint8_t t, uint8_t d, uint8_t own, uint32_t day, uint32_t quorum,
                    uint8_t *records, size_t records_len);
 
 /* Announces a body: keeps it under our lowest free number and writes its bundle to `out`. */
-uint32_t mbrb_broadcast(uint8_t n, uint8_t t, uint8_t d, uint8_t own, uint32_t day,
+uint32_t mbrb_broadcast(uint8_t n, uint8_t t, uint8_t d, uint8_t own, uint32_t day, uint32_t quorum,
                         const uint8_t *body, size_t body_len,
                         uint8_t *records, size_t records_len,
                         uint8_t *out, size_t out_len);
 
 /* Takes a bundle that came in. `out` changes only where the code is MBRB_SIGNED or MBRB_DELIVERED. */
-uint32_t mbrb_receive(uint8_t n, uint8_t t, uint8_t d, uint8_t own, uint32_t day,
+uint32_t mbrb_receive(uint8_t n, uint8_t t, uint8_t d, uint8_t own, uint32_t day, uint32_t quorum,
                       const uint8_t *bundle, size_t bundle_len,
                       uint8_t *records, size_t records_len,
                       uint8_t *out, size_t out_len);
 
 /* For a display: tells by code and `out` what mbrb_receive would do with the same arguments, and does not do it. The
  * records stay as they are, and nobody sends, signs for, saves or acts on what it tells (section 12). */
-uint32_t mbrb_preview(uint8_t n, uint8_t t, uint8_t d, uint8_t own, uint32_t day,
+uint32_t mbrb_preview(uint8_t n, uint8_t t, uint8_t d, uint8_t own, uint32_t day, uint32_t quorum,
                       const uint8_t *bundle, size_t bundle_len,
                       const uint8_t *records, size_t records_len,
                       uint8_t *out, size_t out_len);

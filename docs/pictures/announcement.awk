@@ -1,6 +1,7 @@
 # One announcement on its way through the units: from a run file and what the run program prints for it.
 # A unit sends what it holds, so the script follows what each unit holds and has sent, as sets of signers. It complains of a row that hands over
-# a bundle that no unit has sent, and of a count that is not the size of the set: a picture shows nothing that did not happen.
+# a bundle that no unit has sent, of a count that is not the size of the set, and of an answer that is not the quorum's: a picture shows nothing that
+# did not happen.
 
 function complain(row, words) {
     print "docs/pictures/announcement: line " row ": " words | "cat 1>&2"
@@ -32,9 +33,8 @@ function alone(member,    set, u) {
 FNR == 1 { file++ }
 
 file == 1 && FNR == 2 {
-    n = $1; t = $2; d = $3
+    n = $1; t = $2; d = $3; q = $5
     if (n != 4) complain(0, "the picture is of four units")
-    q = int((n + t) / 2) + 1
     for (u = 0; u < n; u++) held[u] = "0000"
 }
 
@@ -63,6 +63,7 @@ function follow(row, said, number, count,    u) {
     before[row] = held[u]
     if (said != "refused") held[u] = union(union(held[u], given[row]), alone(u))
     if (said != "refused" && size(held[u]) != count) complain(row, "the unit holds " size(held[u]) " signatures")
+    if (said != "refused" && (count >= q) != (said == "delivered")) complain(row, count " signatures are " (count >= q ? "" : "not ") "a quorum of " q)
     after[row] = held[u]
     # where two units send the same bytes the first is drawn
     if (sends(said) && !(held[u] in sender)) sender[held[u]] = row

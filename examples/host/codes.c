@@ -1,8 +1,9 @@
 /* Every code of include/mbrb.h, provoked once: its number and name as the header has them, and what the call gave. Each bundle is
- * previewed before it is taken. Then what the header says of places and bytes, and what happens to a host that gives yesterday's records
- * today's day.
+ * previewed before it is taken. Then what the header says of places and bytes, what a stricter quorum does, and what happens to a host that
+ * gives the records of a day another day or another quorum.
  *
- * Four units, of which one may be faulty; we are unit 1, on day 7. A quorum is 3. Each call starts from the records that its line needs.
+ * Four units, of which one may be faulty, with the least quorum, which is 3; we are unit 1, on day 7. Each call starts from the records that
+ * its line needs. The stricter quorum is that of a site with eight units.
  */
 #include "mbrb.h"
 
@@ -11,8 +12,21 @@
 #include <string.h>
 
 #define UNITS 4
+#define RECORDS MBRB_RECORDS_SIZE(UNITS)
+#define SITE_UNITS 8
+#define SITE_RECORDS MBRB_RECORDS_SIZE(SITE_UNITS)
 
-static uint8_t records[MBRB_RECORDS_SIZE(UNITS)];
+/* What each call is given first, by the header's names. */
+struct table {
+    uint8_t n, t, d, own;
+    uint32_t day, quorum;
+};
+
+static const struct table usual = {UNITS, 1, 0, 1, 7, MBRB_LEAST_QUORUM(UNITS, 1)};
+static const struct table of_day_8 = {UNITS, 1, 0, 1, 8, MBRB_LEAST_QUORUM(UNITS, 1)};
+static const struct table of_nobody = {UNITS, 1, 0, UNITS, 7, MBRB_LEAST_QUORUM(UNITS, 1)}; /* our own number is none of the four */
+
+static uint8_t records[SITE_RECORDS]; /* the four units use the first RECORDS bytes */
 static uint8_t bundle[MBRB_BUNDLE_SIZE];
 static uint8_t body[MBRB_BODY_SIZE];
 static uint8_t out[MBRB_BUNDLE_SIZE];
@@ -30,31 +44,31 @@ static void told(const char *name, uint32_t expected, uint32_t code)
 
 #define TOLD(name, call) told(#name, name, call)
 
-/* The calls with lengths that may be wrong. */
-static uint32_t open_with(uint8_t own, size_t records_len)
+/* The calls with tables and lengths that may be wrong. */
+static uint32_t open_by(struct table by, size_t records_len)
 {
-    return mbrb_open(UNITS, 1, 0, own, 7, records, records_len);
+    return mbrb_open(by.n, by.t, by.d, by.own, by.day, by.quorum, records, records_len);
 }
 
-static uint32_t announce_with(uint8_t own, size_t body_len, size_t records_len, size_t out_len)
+static uint32_t announce_by(struct table by, size_t body_len, size_t records_len, size_t out_len)
 {
-    return mbrb_broadcast(UNITS, 1, 0, own, 7, body, body_len, records, records_len, out, out_len);
+    return mbrb_broadcast(by.n, by.t, by.d, by.own, by.day, by.quorum, body, body_len, records, records_len, out, out_len);
 }
 
 /* A preview comes first, on the same buffers but for its `out`. */
-static uint32_t take_by(uint8_t n, uint8_t t, uint8_t d, uint8_t own, uint32_t day, size_t bundle_len, size_t records_len, size_t out_len)
+static uint32_t take_by(struct table by, size_t bundle_len, size_t records_len, size_t out_len)
 {
     uint8_t before[sizeof records], shown[sizeof out];
     uint32_t preview, code;
 
     memcpy(before, records, sizeof records);
     memcpy(shown, out, sizeof out);
-    preview = mbrb_preview(n, t, d, own, day, bundle, bundle_len, records, records_len, shown, out_len);
+    preview = mbrb_preview(by.n, by.t, by.d, by.own, by.day, by.quorum, bundle, bundle_len, records, records_len, shown, out_len);
     if (memcmp(records, before, sizeof records) != 0) {
         puts("    the preview wrote to the records");
         differ = 1;
     }
-    code = mbrb_receive(n, t, d, own, day, bundle, bundle_len, records, records_len, out, out_len);
+    code = mbrb_receive(by.n, by.t, by.d, by.own, by.day, by.quorum, bundle, bundle_len, records, records_len, out, out_len);
     if (preview != code || memcmp(shown, out, sizeof out) != 0) {
         printf("    the preview gave %" PRIu32 " and taking %" PRIu32 ", or `out` differs\n", preview, code);
         differ = 1;
@@ -64,19 +78,19 @@ static uint32_t take_by(uint8_t n, uint8_t t, uint8_t d, uint8_t own, uint32_t d
     return code;
 }
 
-static uint32_t take_with(uint8_t own, size_t bundle_len, size_t records_len, size_t out_len)
+static void open_day(void)
 {
-    return take_by(UNITS, 1, 0, own, 7, bundle_len, records_len, out_len);
+    open_by(usual, RECORDS);
 }
 
 static uint32_t announce(void)
 {
-    return announce_with(1, sizeof body, sizeof records, sizeof out);
+    return announce_by(usual, sizeof body, RECORDS, sizeof out);
 }
 
 static uint32_t take(void)
 {
-    return take_with(1, sizeof bundle, sizeof records, sizeof out);
+    return take_by(usual, sizeof bundle, RECORDS, sizeof out);
 }
 
 /* A bundle of sender 0, number 0, with these signers and a body of sixteen times `text`. */
@@ -95,17 +109,12 @@ static void bring_with(size_t at, uint8_t value)
     bundle[at] = value;
 }
 
-static void open_day(void)
-{
-    open_with(1, sizeof records);
-}
-
 static void refused_from_the_input(void)
 {
-    TOLD(MBRB_BAD_TABLE, open_with(UNITS, sizeof records));
-    TOLD(MBRB_BAD_TABLE, announce_with(UNITS, sizeof body, sizeof records, sizeof out));
-    TOLD(MBRB_BAD_TABLE, take_with(UNITS, sizeof bundle, sizeof records, sizeof out));
-    TOLD(MBRB_BUNDLE_LENGTH, take_with(1, 31, sizeof records, sizeof out));
+    TOLD(MBRB_BAD_TABLE, open_by(of_nobody, RECORDS));
+    TOLD(MBRB_BAD_TABLE, announce_by(of_nobody, sizeof body, RECORDS, sizeof out));
+    TOLD(MBRB_BAD_TABLE, take_by(of_nobody, sizeof bundle, RECORDS, sizeof out));
+    TOLD(MBRB_BUNDLE_LENGTH, take_by(usual, 31, RECORDS, sizeof out));
     bring_with(6, 1);
     TOLD(MBRB_RESERVED_BYTES, take());
     bring_with(MBRB_DAY_AT + 3, 8);
@@ -118,18 +127,18 @@ static void refused_from_the_input(void)
     TOLD(MBRB_SIGNER_RANGE, take());
     bring(4, 'a');
     TOLD(MBRB_SENDER_UNSIGNED, take());
-    TOLD(MBRB_BODY_LENGTH, announce_with(1, 15, sizeof records, sizeof out));
-    TOLD(MBRB_OUT_LENGTH, announce_with(1, sizeof body, sizeof records, 31));
+    TOLD(MBRB_BODY_LENGTH, announce_by(usual, 15, RECORDS, sizeof out));
+    TOLD(MBRB_OUT_LENGTH, announce_by(usual, sizeof body, RECORDS, 31));
     bring(1, 'a');
-    TOLD(MBRB_OUT_LENGTH, take_with(1, sizeof bundle, sizeof records, 31));
+    TOLD(MBRB_OUT_LENGTH, take_by(usual, sizeof bundle, RECORDS, 31));
 }
 
 static void refused_from_the_state(void)
 {
-    TOLD(MBRB_RECORDS_LENGTH, open_with(1, sizeof records - 1));
-    TOLD(MBRB_RECORDS_LENGTH, announce_with(1, sizeof body, sizeof records - 1, sizeof out));
-    TOLD(MBRB_RECORDS_LENGTH, take_with(1, sizeof bundle, sizeof records - 1, sizeof out));
-    memset(records, 0xff, sizeof records);
+    TOLD(MBRB_RECORDS_LENGTH, open_by(usual, RECORDS - 1));
+    TOLD(MBRB_RECORDS_LENGTH, announce_by(usual, sizeof body, RECORDS - 1, sizeof out));
+    TOLD(MBRB_RECORDS_LENGTH, take_by(usual, sizeof bundle, RECORDS - 1, sizeof out));
+    memset(records, 0xff, RECORDS);
     TOLD(MBRB_UNSOUND_RECORD, announce());
     TOLD(MBRB_UNSOUND_RECORD, take());
     open_day();
@@ -149,7 +158,10 @@ static void refused_from_the_state(void)
 
 static void done(void)
 {
-    TOLD(MBRB_OPENED, open_with(1, sizeof records));
+    /* t comes before d: with 3 units and d = 1 the table is good, with t = 1 it is not. */
+    const struct table bears_a_loss = {3, 0, 1, 1, 7, 2}, bears_a_fault = {3, 1, 0, 1, 7, 2};
+
+    TOLD(MBRB_OPENED, open_by(usual, RECORDS));
     TOLD(MBRB_ANNOUNCED(0), announce());
     for (int number = 1; number < MBRB_NUMBERS - 1; number++)
         announce();
@@ -159,14 +171,13 @@ static void done(void)
     TOLD(MBRB_KEPT, take());
     bring(1 | 8, 'a');
     TOLD(MBRB_DELIVERED, take());
-    /* t comes before d: with 3 units and d = 1 the table is good, with t = 1 it is not. */
-    TOLD(MBRB_OPENED, mbrb_open(3, 0, 1, 1, 7, records, MBRB_RECORDS_SIZE(3)));
-    TOLD(MBRB_BAD_TABLE, mbrb_open(3, 1, 0, 1, 7, records, MBRB_RECORDS_SIZE(3)));
-    TOLD(MBRB_ANNOUNCED(0), mbrb_broadcast(3, 0, 1, 1, 7, body, sizeof body, records, MBRB_RECORDS_SIZE(3), out, sizeof out));
-    TOLD(MBRB_BAD_TABLE, mbrb_broadcast(3, 1, 0, 1, 7, body, sizeof body, records, MBRB_RECORDS_SIZE(3), out, sizeof out));
+    TOLD(MBRB_OPENED, open_by(bears_a_loss, MBRB_RECORDS_SIZE(3)));
+    TOLD(MBRB_BAD_TABLE, open_by(bears_a_fault, MBRB_RECORDS_SIZE(3)));
+    TOLD(MBRB_ANNOUNCED(0), announce_by(bears_a_loss, sizeof body, MBRB_RECORDS_SIZE(3), sizeof out));
+    TOLD(MBRB_BAD_TABLE, announce_by(bears_a_fault, sizeof body, MBRB_RECORDS_SIZE(3), sizeof out));
     bring(1, 'a');
-    TOLD(MBRB_DELIVERED, take_by(3, 0, 1, 1, 7, sizeof bundle, MBRB_RECORDS_SIZE(3), sizeof out));
-    TOLD(MBRB_BAD_TABLE, take_by(3, 1, 0, 1, 7, sizeof bundle, MBRB_RECORDS_SIZE(3), sizeof out));
+    TOLD(MBRB_DELIVERED, take_by(bears_a_loss, sizeof bundle, MBRB_RECORDS_SIZE(3), sizeof out));
+    TOLD(MBRB_BAD_TABLE, take_by(bears_a_fault, sizeof bundle, MBRB_RECORDS_SIZE(3), sizeof out));
 }
 
 static void previews(void)
@@ -178,7 +189,7 @@ static void previews(void)
     putchar('\n');
 }
 
-/* How many bytes of the records are not zero. */
+/* How many bytes of the records are not zero; those that the four units do not use are among them. */
 static int written(void)
 {
     int count = 0;
@@ -194,7 +205,7 @@ static void places(void)
     const uint8_t *record = records + MBRB_RECORD_AT(0, 0);
     uint32_t code;
 
-    memset(records, 0xff, sizeof records);
+    memset(records, 0xff, RECORDS);
     open_day();
     printf("written %d", written());
     bring(1 | 4, 'a');
@@ -207,14 +218,20 @@ static void places(void)
     code = announce();
     printf("announced %d as number %" PRIu32, MBRB_IS_ANNOUNCED(code), MBRB_NUMBER(code));
     printf(", record %d at %d of %d, of %d units at most\n", records[MBRB_RECORD_AT(1, 1)] == MBRB_RECORD_HELD,
-           (int)MBRB_RECORD_AT(1, 1), (int)sizeof records, MBRB_UNITS_MAX);
+           (int)MBRB_RECORD_AT(1, 1), (int)RECORDS, MBRB_UNITS_MAX);
 }
 
-/* Quorums of good tables: 1 unit, 2 units, 4 with a fault, 6 with a fault and a loss, 64 with 21 faults, 64 with 31 losses. */
+/* The least and the most quorum of good tables: n, t and d. */
 static void macros(void)
 {
-    printf("version %d.%d.%d is %s, quorums %u %u %u %u %u %u\n", MBRB_VERSION_MAJOR, MBRB_VERSION_MINOR, MBRB_VERSION_PATCH, MBRB_VERSION,
-           MBRB_QUORUM(1, 0), MBRB_QUORUM(2, 0), MBRB_QUORUM(4, 1), MBRB_QUORUM(6, 1), MBRB_QUORUM(64, 21), MBRB_QUORUM(64, 0));
+    static const uint8_t tables[][3] = {{1, 0, 0}, {2, 0, 0}, {4, 1, 0}, {6, 1, 1}, {64, 21, 0}, {64, 0, 31}, {8, 1, 1}, {64, 0, 0}};
+
+    printf("version %d.%d.%d is %s, quorums", MBRB_VERSION_MAJOR, MBRB_VERSION_MINOR, MBRB_VERSION_PATCH, MBRB_VERSION);
+    for (size_t i = 0; i < sizeof tables / sizeof tables[0]; i++) {
+        const uint8_t n = tables[i][0], t = tables[i][1], d = tables[i][2];
+        printf("%s %" PRIu32 " to %" PRIu32, i == 0 ? "" : ",", MBRB_LEAST_QUORUM(n, t), MBRB_MOST_QUORUM(n, t, d));
+    }
+    putchar('\n');
 }
 
 /* Takes a bundle of sender 0 on day 8, over records that are day 7's: no call can know. */
@@ -223,7 +240,7 @@ static uint32_t take_on_day_8(uint8_t number, unsigned signers, char text)
     bring(signers, text);
     bundle[MBRB_DAY_AT + 3] = 8;
     bundle[MBRB_NUMBER_AT] = number;
-    return take_by(UNITS, 1, 0, 1, 8, sizeof bundle, sizeof records, sizeof out);
+    return take_by(of_day_8, sizeof bundle, RECORDS, sizeof out);
 }
 
 /* Yesterday number 0 was delivered, and number 1 signed. Today both come again, and we sign neither: number 0 is refused, and number 1
@@ -242,6 +259,95 @@ static void yesterday(void)
     printf(" and sent for day %d with signers %d\n", out[MBRB_DAY_AT + 3], out[MBRB_SIGNERS_AT + 7]);
 }
 
+/* A site with eight units, one of which may be faulty, and one of which a sending may miss: it chooses 5 or 6. We are unit 1 there too. */
+static struct table site(uint32_t quorum)
+{
+    const struct table table = {SITE_UNITS, 1, 1, 1, 7, quorum};
+
+    return table;
+}
+
+static uint32_t announce_there(uint32_t quorum)
+{
+    return announce_by(site(quorum), sizeof body, SITE_RECORDS, sizeof out);
+}
+
+static uint32_t take_there(uint32_t quorum)
+{
+    return take_by(site(quorum), sizeof bundle, SITE_RECORDS, sizeof out);
+}
+
+/* Five calls of a day and their codes: opening, announcing, and taking three bundles, after which 2, 5 and 6 units have signed, we among them. */
+static void day_with(uint32_t quorum, uint32_t opening, uint32_t announcing, uint32_t with_2, uint32_t with_5, uint32_t with_6)
+{
+    const uint32_t expected[] = {opening, announcing, with_2, with_5, with_6};
+    uint32_t codes[5];
+
+    codes[0] = open_by(site(quorum), SITE_RECORDS);
+    codes[1] = announce_there(quorum);
+    bring(1, 'a');
+    codes[2] = take_there(quorum);
+    bring(1 | 4 | 8 | 16, 'a');
+    codes[3] = take_there(quorum);
+    bring(1 | 32, 'a');
+    codes[4] = take_there(quorum);
+    printf("quorum %" PRIu32 ":", quorum);
+    for (size_t i = 0; i < sizeof codes / sizeof codes[0]; i++)
+        printf(" %" PRIu32, codes[i]);
+    putchar('\n');
+    if (memcmp(codes, expected, sizeof codes) != 0) {
+        puts("    the header has other codes");
+        differ = 1;
+    }
+}
+
+/* A quorum that is not allowed, on a day that is open already: each call refuses, and changes no byte. */
+static void refused_quorum(uint32_t quorum)
+{
+    uint8_t before[sizeof records], sent[sizeof out];
+
+    memcpy(before, records, sizeof records);
+    memcpy(sent, out, sizeof out);
+    day_with(quorum, MBRB_BAD_TABLE, MBRB_BAD_TABLE, MBRB_BAD_TABLE, MBRB_BAD_TABLE, MBRB_BAD_TABLE);
+    if (memcmp(records, before, sizeof records) != 0 || memcmp(out, sent, sizeof out) != 0) {
+        puts("    and bytes have changed");
+        differ = 1;
+    }
+}
+
+static void quorums(void)
+{
+    const uint32_t least = MBRB_LEAST_QUORUM(SITE_UNITS, 1), most = MBRB_MOST_QUORUM(SITE_UNITS, 1, 1);
+
+    puts("8 units, of which 1 may be faulty, with 1 loss: opened, announced, and taken until 2, 5 and 6 have signed");
+    day_with(least, MBRB_OPENED, MBRB_ANNOUNCED(0), MBRB_SIGNED, MBRB_DELIVERED, MBRB_ALREADY_DELIVERED);
+    day_with(most, MBRB_OPENED, MBRB_ANNOUNCED(0), MBRB_SIGNED, MBRB_KEPT, MBRB_DELIVERED);
+    refused_quorum(least - 1);
+    refused_quorum(most + 1);
+    refused_quorum(0);
+    refused_quorum(UINT32_MAX);
+}
+
+/* Where another body is held, 5 signers are enough for one quorum and too few for the other. So they are for a delivered record: with the
+ * stricter quorum of another day a record of this one is not sound, at taking in its slot and at announcing, if it is one of ours. */
+static void counted_by_the_quorum(void)
+{
+    open_by(site(5), SITE_RECORDS);
+    bring(1, 'a');
+    take_there(5);
+    bring(1 | 4 | 8 | 16 | 32, 'b');
+    TOLD(MBRB_OTHER_BODY, take_there(6));
+    TOLD(MBRB_DELIVERED, take_there(5));
+    TOLD(MBRB_UNSOUND_RECORD, take_there(6));
+    TOLD(MBRB_ALREADY_DELIVERED, take_there(5));
+    announce_there(5);
+    bring(1 | 2 | 4 | 8 | 16, 0); /* what we have announced comes back to us */
+    bundle[MBRB_SENDER_AT] = 1;
+    TOLD(MBRB_DELIVERED, take_there(5));
+    TOLD(MBRB_UNSOUND_RECORD, announce_there(6));
+    TOLD(MBRB_ANNOUNCED(1), announce_there(5));
+}
+
 int main(void)
 {
     refused_from_the_input();
@@ -251,5 +357,7 @@ int main(void)
     places();
     macros();
     yesterday();
+    quorums();
+    counted_by_the_quorum();
     return differ;
 }

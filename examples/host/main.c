@@ -2,7 +2,8 @@
  * loses power between a call and its sending, and restarts; an installer then looks at its display. In the end a new day begins.
  *
  * The first half is to copy: open_day, announce, take, restart, show and preview face the library. The second half stands in for a unit's
- * hardware, the radio, the key chip and the clock, and for the faulty unit. README.md says more; sections are those of include/mbrb.h.
+ * hardware, the radio, the key chip and the clock, for what the site has set, and for the faulty unit. README.md says more; sections are those
+ * of include/mbrb.h.
  */
 #include "mbrb.h"
 
@@ -16,11 +17,12 @@
 #define FAULTS 1
 #define LOSSES 0
 
-/* What a unit saves, as one block: the records, their day beside them, and what the last call gave to do. There is one `out`: the next call comes
- * when send_if_due and act_if_due are back, and a host that does not wait for its radio keeps a list of them. The signatures of section 6 belong
- * here too, and the table if it can change; the simulated key chip below keeps the signatures. */
+/* What a unit saves, as one block: the records, their day and quorum beside them, and what the last call gave to do. There is one `out`: the next
+ * call comes when send_if_due and act_if_due are back, and a host that does not wait for its radio keeps a list of them. The signatures of
+ * section 6 belong here too, and the rest of the table if it can change; the simulated key chip below keeps the signatures. */
 struct block {
     uint32_t day;
+    uint32_t quorum; /* the site's for this day: a new one comes with a new day, and never within one */
     uint8_t records[MBRB_RECORDS_SIZE(UNITS)];
     uint8_t out[MBRB_BUNDLE_SIZE];
     bool to_send;   /* `out` may not have been sent yet */
@@ -34,11 +36,12 @@ struct unit {
     struct block saved; /* memory that outlives a restart */
 };
 
-/* The unit's hardware. What is sent goes to all units, the sending one among them. */
+/* The unit's hardware, and what its site has set. What is sent goes to all units, the sending one among them. */
 static void send(uint8_t from, const uint8_t *bundle);
 static void check_signatures(uint8_t *bundle);
 static void act_on(uint8_t own, const uint8_t *body);
 static uint32_t clock_day(void);
+static uint32_t quorum_for(uint32_t day);
 static bool power_fails(const struct unit *unit);
 
 static void print_slot(uint8_t sender, uint32_t number, const uint8_t *body);
@@ -55,17 +58,19 @@ static void save(struct unit *unit)
 }
 
 /* Section 4: a day is opened where the clock's is later than the block's, and at a unit that is new. It is never opened again: a clock that was
- * set back opens nothing. Firmware tests that the clock is not far ahead. */
+ * set back opens nothing. Firmware tests that the clock is not far ahead. What quorum the site has set for the day is asked here alone: from now
+ * on the calls get the block's. */
 static void open_day(struct unit *unit, bool is_new)
 {
-    const uint32_t day = clock_day();
+    const uint32_t day = clock_day(), quorum = quorum_for(day);
     uint32_t code;
 
     if (!is_new && day <= unit->now.day)
         return;
-    code = mbrb_open(UNITS, FAULTS, LOSSES, unit->own, day, unit->now.records, sizeof unit->now.records);
+    code = mbrb_open(UNITS, FAULTS, LOSSES, unit->own, day, quorum, unit->now.records, sizeof unit->now.records);
     if (code == MBRB_OPENED) {
         unit->now.day = day;
+        unit->now.quorum = quorum;
         unit->now.to_send = false; /* of yesterday */
         if (is_new)
             unit->now.to_act_on = false;
@@ -124,7 +129,7 @@ static void announce(struct unit *unit, const uint8_t *body)
     open_day(unit, false);
     if (unit->now.stopped)
         return;
-    code = mbrb_broadcast(UNITS, FAULTS, LOSSES, unit->own, unit->now.day, body, MBRB_BODY_SIZE,
+    code = mbrb_broadcast(UNITS, FAULTS, LOSSES, unit->own, unit->now.day, unit->now.quorum, body, MBRB_BODY_SIZE,
                           unit->now.records, sizeof unit->now.records, unit->now.out, sizeof unit->now.out);
     if (MBRB_IS_ANNOUNCED(code)) {
         printf("unit %d announces ", unit->own);
@@ -191,7 +196,7 @@ static void take(struct unit *unit, const uint8_t *arrived)
     /* A copy, of the signatures beside it too: nobody may write to the bundle during the call, and a radio fills its own buffer when it likes. */
     memcpy(bundle, arrived, sizeof bundle);
     check_signatures(bundle);
-    code = mbrb_receive(UNITS, FAULTS, LOSSES, unit->own, unit->now.day, bundle, sizeof bundle,
+    code = mbrb_receive(UNITS, FAULTS, LOSSES, unit->own, unit->now.day, unit->now.quorum, bundle, sizeof bundle,
                         unit->now.records, sizeof unit->now.records, unit->now.out, sizeof unit->now.out);
 
     printf("unit %d takes ", unit->own);
@@ -238,7 +243,7 @@ static void preview(const struct unit *unit, const uint8_t *arrived)
         return; /* take makes no call, or opens a new day first */
     memcpy(bundle, arrived, sizeof bundle);
     check_signatures(bundle);
-    code = mbrb_preview(UNITS, FAULTS, LOSSES, unit->own, unit->now.day, bundle, sizeof bundle,
+    code = mbrb_preview(UNITS, FAULTS, LOSSES, unit->own, unit->now.day, unit->now.quorum, bundle, sizeof bundle,
                         unit->now.records, sizeof unit->now.records, out, sizeof out);
 
     printf("unit %d shows ", unit->own);
@@ -251,7 +256,7 @@ static void preview(const struct unit *unit, const uint8_t *arrived)
     putchar('\n');
 }
 
-/* ---- The clock, the power, the radio and the key chip, simulated */
+/* ---- The clock, the site's quorum, the power, the radio and the key chip, simulated */
 
 static uint32_t day_of_clock = 7;
 static const struct unit *without_power; /* it fails after the next save of this unit */
@@ -261,6 +266,15 @@ static int acted[UNITS]; /* on how many bodies each unit has acted */
 static uint32_t clock_day(void)
 {
     return day_of_clock;
+}
+
+/* What the site has set for this day, at all units alike: here the least on every day. A stricter site takes another one, up to
+ * MBRB_MOST_QUORUM(UNITS, FAULTS, LOSSES); that of this table is 3, as the least is. A change names the day from which it holds, and is known to
+ * all units before the first of them opens that day. */
+static uint32_t quorum_for(uint32_t day)
+{
+    (void)day;
+    return MBRB_LEAST_QUORUM(UNITS, FAULTS);
 }
 
 /* Here the heating curve gets the setpoint, or the unit takes the lead. */

@@ -46,4 +46,6 @@ pub struct Config {
     /// the number of this node
     pub own: u8,
     pub day: u32,
+    /// how many signers deliver a payload, as the site has chosen: the quorum
+    pub q: u32,
 }

@@ -6,7 +6,7 @@ use crate::reference::{broadcast, receive, Receipt, Refusal};
 use crate::Config;
 use std::io::{self, BufRead, BufReader, Read, Write};
 
-const TABLE_NAMES: &[u8] = b"units faults losses day";
+const TABLE_NAMES: &[u8] = b"units faults losses day quorum";
 const STEP_NAMES: &[u8] = b"act unit sender number signers body";
 const MOST_NODES: u8 = 8;
 const LONGEST_ROW: usize = 120;
@@ -112,6 +112,7 @@ fn parse_config(row: &[u8]) -> Option<Config> {
         d: u8::try_from(d).ok()?,
         own: 0,
         day: number()?,
+        q: number()?,
     };
     let complete = fields.next().is_none();
     (complete && config.good() && config.n <= MOST_NODES).then_some(config)
@@ -397,7 +398,8 @@ impl<W: Write> Printer<W> {
 mod tests {
     use super::*;
 
-    const HEAD: &str = "units faults losses day\n4 1 0 7\nact unit sender number signers body\n";
+    const HEAD: &str =
+        "units faults losses day quorum\n4 1 0 7 3\nact unit sender number signers body\n";
     const BODY: &str = "000102030405060708090a0b0c0d0e0f";
     const NOTHING_PLAYED: &str = "line act unit answer reason count\nsender number units percent\n";
 
@@ -424,8 +426,8 @@ mod tests {
         assert_eq!(rows(row), "1 - - unread 0 0\n", "{text:?}");
     }
 
-    const EXAMPLE: &str = "units faults losses day
-4 1 0 7
+    const EXAMPLE: &str = "units faults losses day quorum
+4 1 0 7 3
 act unit sender number signers body
 A 0 - - - 000102030405060708090a0b0c0d0e0f
 B 1 0 0 0000000000000001 000102030405060708090a0b0c0d0e0f
@@ -474,8 +476,11 @@ sender number units percent
         for (right, wrong) in [
             ("units", "Units"),
             ("units", " units"),
-            ("day\n", "day \n"),
-            ("day\n", "day\r\n"),
+            (" quorum\n", "\n"),
+            ("quorum\n", "quorum \n"),
+            ("quorum\n", "quorum\r\n"),
+            ("quorum\n", "quorum own\n"),
+            ("day quorum", "quorum day"),
             ("body\n", "body\r\n"),
             ("body\n", "body\0\n"),
             ("act unit", "act\tunit"),
@@ -486,26 +491,51 @@ sender number units percent
         }
         let long = "x".repeat(1 << 20);
         assert_no_table(&long);
-        assert_no_table(HEAD.replace("day\n", &format!("day{long}\n")));
+        assert_no_table(HEAD.replace("quorum\n", &format!("quorum{long}\n")));
         assert_no_table(HEAD.replace("body\n", &format!("body{long}\n")));
     }
 
     #[test]
-    fn a_table_row_is_four_plain_numbers_of_a_good_table_of_8_at_most() {
-        let with_table = |row: &str| HEAD.replace("4 1 0 7", row);
-        for row in ["1 0 0 0", "8 2 0 4294967295", "8 0 3 10", "8 1 2 1"] {
+    fn a_table_row_is_five_plain_numbers_of_a_good_table_of_8_at_most() {
+        let with_table = |row: &str| HEAD.replace("4 1 0 7 3", row);
+        let good =
+            "1 0 0 0 1|8 2 0 4294967295 6|8 0 3 10 5|8 1 2 1 5|8 0 0 7 5|8 0 0 7 8|8 1 0 7 6";
+        for row in good.split('|') {
             assert_eq!(played(with_table(row)), NOTHING_PLAYED, "{row}");
         }
-        let not_plain = "|4|4 1 0|4 1 0 7 |4 1 0 7 0| 4 1 0 7|4  1 0 7|+4 1 0 7|04 1 0 7|4 1 00 7|4 1 -0 7|4 1 0 -|4 1 0 7\r|\
-            4 1 0 0x7|4\t1 0 7|4 1 0 7\0";
-        let too_large =
-            "256 0 0 7|260 1 0 7|4 257 0 7|4 1 256 7|4 1 0 4294967296|4 1 0 4294967303|\
-            4 1 0 999999999999999999999999999999";
-        let not_good = "0 0 0 7|5 1 1 7|8 3 0 7|8 0 4 7|9 0 0 7|64 21 0 7|65 0 0 7";
-        for row in [not_plain, too_large, not_good].join("|").split('|') {
+        let not_plain = "|4|4 1 0 7|4 1 0 7 |4 1 0 7 3 |4 1 0 7 3 0| 4 1 0 7 3|4  1 0 7 3|+4 1 0 7 3|04 1 0 7 3|4 1 00 7 3|\
+            4 1 -0 7 3|4 1 0 - 3|4 1 0 7 -|4 1 0 7 3\r|4 1 0 0x7 3|4\t1 0 7 3|4 1 0 7 3\0|4 1 0 7 03|4 1 0 7 +3|4 1 0 7  3";
+        let too_large = "256 0 0 7 129|260 1 0 7 3|4 257 0 7 3|4 1 256 7 3|4 1 0 4294967296 3|4 1 0 4294967303 3|\
+            4 1 0 999999999999999999999999999999 3|4 1 0 7 4294967296|4 1 0 7 4294967299|4 1 0 7 18446744073709551619|\
+            4 1 0 7 999999999999999999999999999999";
+        let not_good =
+            "0 0 0 7 0|0 0 0 7 1|5 1 1 7 4|8 3 0 7 6|8 0 4 7 5|9 0 0 7 5|64 21 0 7 43|65 0 0 7 33";
+        let quorum_out_of_range = "4 1 0 7 0|4 1 0 7 2|4 1 0 7 4|4 1 0 7 259|4 1 0 7 2147483651|4 1 0 7 4294967295|8 0 0 7 4|8 0 0 7 9";
+        let bad = [not_plain, too_large, not_good, quorum_out_of_range];
+        for row in bad.join("|").split('|') {
             assert_no_table(with_table(row));
         }
-        assert_no_table(with_table(&format!("4 1 0 7{}", " ".repeat(1 << 20))));
+        assert_no_table(with_table(&format!("4 1 0 7 3{}", " ".repeat(1 << 20))));
+    }
+
+    #[test]
+    fn a_run_without_quorum_is_no_table() {
+        for row in ["4 1 0 7", "4 1 0 7 3"] {
+            let names = "units faults losses day\n";
+            assert_no_table(format!(
+                "{names}{row}\nact unit sender number signers body\n"
+            ));
+        }
+    }
+
+    #[test]
+    fn the_quorum_of_the_table_is_played() {
+        let steps = format!("A 0 - - - {BODY}\nB 1 0 0 000000000000000d {BODY}\n");
+        for (q, answer) in [(3, "delivered"), (4, "delivered"), (5, "signed")] {
+            let head = HEAD.replace("4 1 0 7 3", &format!("5 0 0 7 {q}"));
+            let text = played(head + &steps);
+            assert!(text.contains(&format!("\n2 B 1 {answer} 0 4\n")), "{text}");
+        }
     }
 
     #[test]
@@ -565,7 +595,7 @@ sender number units percent
     #[test]
     fn percent_drops_the_fraction() {
         let row = |node| format!("B {node} 0 15 0000000000000003 {BODY}\n");
-        let head = HEAD.replace("4 1 0", "3 0 0");
+        let head = HEAD.replace("4 1 0 7 3", "3 0 0 7 2");
         let text = played(format!("{head}{}", row(2)));
         assert!(text.ends_with("1 B 2 delivered 0 3\nsender number units percent\n0 15 1 33\n"));
     }

@@ -3,6 +3,7 @@
 //! Every check comes before the first store, so a refusal changes no byte.
 
 use crate::Config;
+use std::ops::RangeInclusive;
 
 /// Why a call changes nothing, by its number in docs/RULES.md.
 #[derive(Clone, Copy, Debug, PartialEq, Eq)]
@@ -52,11 +53,26 @@ impl Receipt {
     }
 }
 
+/// The least quorum that a site may choose: two smaller ones may have no correct node in common.
+#[inline]
+pub fn least_quorum(n: u8, t: u8) -> u32 {
+    (u32::from(n) + u32::from(t)) / 2 + 1
+}
+
 impl Config {
-    #[inline]
-    pub fn good(&self) -> bool {
+    /// The quorums that the site may choose from; None if the config is not good with any.
+    // Inlined, it and `good` are computed once in a call, however often they are asked.
+    #[inline(always)]
+    pub fn quorums(&self) -> Option<RangeInclusive<u32>> {
         let [n, t, d] = [self.n, self.t, self.d].map(u32::from);
-        (1..=64).contains(&n) && n > 3 * t + 2 * d && self.own < self.n
+        let good = (1..=64).contains(&n) && n > 3 * t + 2 * d && self.own < self.n;
+        good.then(|| least_quorum(self.n, self.t)..=n - t - d)
+    }
+
+    #[inline(always)]
+    pub fn good(&self) -> bool {
+        self.quorums()
+            .is_some_and(|quorums| quorums.contains(&self.q))
     }
 
     /// 0 if the config is not good.
@@ -65,7 +81,7 @@ impl Config {
         if !self.good() {
             return 0;
         }
-        (u32::from(self.n) + u32::from(self.t)) / 2 + 1
+        self.q
     }
 
     /// The bits of all nodes; 0 if the config is not good.
@@ -383,9 +399,17 @@ mod tests {
     const OTHER: [u8; 16] = [0; 16];
     const UNSENT: [u8; 32] = [0xee; 32];
 
+    /// With the least quorum.
     fn config(n: u8, t: u8, d: u8, own: u8) -> Config {
-        let day = 7;
-        Config { n, t, d, own, day }
+        let (day, q) = (7, least_quorum(n, t));
+        Config {
+            n,
+            t,
+            d,
+            own,
+            day,
+            q,
+        }
     }
 
     fn bytes(head: [u8; 8], signers: u64, payload: [u8; 16]) -> [u8; 32] {
@@ -402,16 +426,21 @@ mod tests {
         bytes([state, 0, 0, 0, 0, 0, 0, 0], signers, payload)
     }
 
-    /// Receives at node 1 of 4, 1, 0, whose record of the slot is `before`, after a preview with the
-    /// same outcome; gives the code, the record afterwards and the outgoing bytes.
+    /// Receives at node 1 of 4, 1, 0, as `receive_at` does.
     fn receive_on(before: [u8; 32], bundle: [u8; 32]) -> (u32, [u8; 32], [u8; 32]) {
-        let (config, mut records, mut out) = (config(4, 1, 0, 1), [[0; 32]; 64], UNSENT);
+        receive_at(config(4, 1, 0, 1), before, bundle)
+    }
+
+    /// Receives at a node whose record of the slot is `before`, after a preview with the same outcome;
+    /// gives the code, the record afterwards and the outgoing bytes.
+    fn receive_at(config: Config, before: [u8; 32], bundle: [u8; 32]) -> (u32, [u8; 32], [u8; 32]) {
+        let mut records = vec![[0; 32]; 16 * usize::from(config.n)];
         records[0] = before;
-        let mut foreseen = UNSENT;
+        let [mut foreseen, mut out] = [UNSENT; 2];
         let previewed = preview_code(&config, &bundle, records.as_flattened(), &mut foreseen);
         let code = receive_code(&config, &bundle, records.as_flattened_mut(), &mut out);
         assert_eq!((previewed, foreseen), (code, out));
-        assert_eq!(records[1..], [[0; 32]; 63]);
+        assert!(records[1..].iter().all(|record| *record == [0; 32]));
         (code, records[0], out)
     }
 
@@ -420,15 +449,88 @@ mod tests {
     }
 
     #[test]
-    fn quorums_of_the_table() {
+    fn least_quorums_of_the_table() {
         let good = [(1, 0, 0, 1), (2, 0, 0, 2), (4, 1, 0, 3), (6, 1, 1, 4)];
         let large = [(64, 21, 0, 43), (64, 0, 31, 33)];
-        let bad = [(0, 0, 0, 0), (5, 1, 1, 0), (64, 0, 32, 0), (65, 0, 0, 0)];
-        for (n, t, d, quorum) in good.into_iter().chain(large).chain(bad) {
+        for (n, t, d, quorum) in good.into_iter().chain(large) {
             assert_eq!(config(n, t, d, 0).quorum(), quorum);
-            assert_eq!(config(n, t, d, 0).good(), quorum > 0);
         }
-        assert!(!config(64, 255, 255, 0).good() && !config(4, 1, 0, 4).good());
+        let bad = [
+            (0, 0, 0),
+            (5, 1, 1),
+            (64, 0, 32),
+            (65, 0, 0),
+            (64, 255, 255),
+        ];
+        for (n, t, d) in bad {
+            let chosen = |q| Config {
+                q,
+                ..config(n, t, d, 0)
+            };
+            assert!((0..=70).chain([u32::MAX]).all(|q| !chosen(q).good()));
+            assert_eq!(config(n, t, d, 0).quorum(), 0);
+        }
+        assert!(!config(4, 1, 0, 4).good());
+    }
+
+    #[test]
+    fn a_site_chooses_from_the_least_quorum_to_the_most() {
+        let sizes =
+            (1..=64).flat_map(|n| (0..=22).flat_map(move |t| (0..=33).map(move |d| (n, t, d))));
+        for (n, t, d) in sizes {
+            let [faults, losses, nodes] = [t, d, n].map(u64::from);
+            let bearable = nodes > 3 * faults + 2 * losses;
+            let small = 0..=nodes + 2;
+            // Where 32 bits are too few for q + t + d or for 2q, what is left of it may be small enough.
+            let halves = (0..=nodes).map(|few| (1 << 31) + few);
+            let last = (0..=faults + losses + 2).map(|few| u64::from(u32::MAX) - few);
+            for q in small.chain(halves).chain(last) {
+                let chosen = Config {
+                    q: q as u32,
+                    ..config(n, t, d, n - 1)
+                };
+                let allowed = 2 * q > nodes + faults && q + faults + losses <= nodes;
+                let good = bearable && allowed;
+                assert_eq!(chosen.good(), good, "{chosen:?}");
+                assert_eq!(chosen.quorum(), if good { chosen.q } else { 0 });
+            }
+        }
+    }
+
+    #[test]
+    fn every_count_goes_by_the_quorum_chosen() {
+        // So many signers of seven; the first is the sender, and we are not among them.
+        let others = |count: u32| [1, 4, 8, 16, 32, 64][..count as usize].iter().sum();
+        for q in [5, 6] {
+            let config = Config {
+                q,
+                ..config(7, 1, 0, 1)
+            };
+            let (held, delivered) = (record(1, 3, PAYLOAD), |count| {
+                record(2, others(count), PAYLOAD)
+            });
+            // The record, the signers of the bundle and its payload, and the code.
+            let rows = [
+                ([0; 32], others(q - 2), PAYLOAD, 101),
+                ([0; 32], others(q - 1), PAYLOAD, 102),
+                (held, others(q - 2), PAYLOAD, 100),
+                (held, others(q - 1), PAYLOAD, 102),
+                (held, others(q - 1), OTHER, 24),
+                (held, others(q), OTHER, 102),
+                (delivered(q - 1), 1, PAYLOAD, 21),
+                (delivered(q), 1, PAYLOAD, 22),
+            ];
+            for (before, signers, payload, code) in rows {
+                let received = receive_at(config, before, bundle(signers, payload));
+                assert_eq!(received.0, code, "q = {q}");
+            }
+            for (count, code) in [(q - 1, 21), (q, 201)] {
+                let (mut records, ours) = ([0; 512 * 7], record(2, others(count - 1) | 2, PAYLOAD));
+                records[512..544].copy_from_slice(&ours);
+                let announced = broadcast_code(&config, &PAYLOAD, &mut records, &mut [0; 32]);
+                assert_eq!(announced, code, "q = {q}");
+            }
+        }
     }
 
     #[test]
@@ -439,7 +541,13 @@ mod tests {
         for (sender, seq, place) in [(0, 1, 32), (3, 15, 2016), (4, 0, 0), (3, 16, 0)] {
             assert_eq!(config(4, 1, 0, 0).place(sender, seq), place);
         }
-        assert_eq!(config(4, 1, 0, 4).place(3, 15), 0);
+        let without_quorum = Config {
+            q: 0,
+            ..config(4, 1, 0, 0)
+        };
+        for bad in [config(4, 1, 0, 4), without_quorum] {
+            assert_eq!((bad.place(3, 15), bad.mask()), (0, 0));
+        }
     }
 
     #[test]
@@ -526,11 +634,13 @@ mod tests {
     #[test]
     fn wrong_configs_and_lengths_are_refused_in_order() {
         let (good, bad) = (config(4, 1, 0, 1), config(5, 1, 1, 1));
+        let strict = Config { q: 4, ..good };
         // Defects add up from row to row: the code is the first of them.
         let rows = [
             (good, 32, 16, 32, 2047, 20, 20),
             (good, 32, 16, 31, 2047, 10, 10),
             (good, 31, 15, 31, 2047, 2, 9),
+            (strict, 31, 15, 31, 2047, 1, 1),
             (bad, 31, 15, 31, 2047, 1, 1),
         ];
         for (config, bundle_length, payload_length, out_length, length, received, sent) in rows {
@@ -548,10 +658,12 @@ mod tests {
     #[test]
     fn a_day_is_opened_whatever_was_there_and_only_where_table_and_length_fit() {
         let (good, bad) = (config(4, 1, 0, 1), config(5, 1, 1, 1));
+        let strict = Config { q: 4, ..good };
         let rows = [
             (good, 2048, 0, 0),
             (good, 2047, 20, 0xa5),
             (good, 0, 20, 0xa5),
+            (strict, 2048, 1, 0xa5),
             (bad, 2560, 1, 0xa5),
             (bad, 0, 1, 0xa5),
         ];

@@ -32,8 +32,10 @@ impl System {
 
     /// The three lines before the first row.
     pub fn head(&self) -> String {
-        let Config { n, t, d, day, .. } = self.config;
-        format!("units faults losses day\n{n} {t} {d} {day}\nact unit sender number signers body\n")
+        let Config {
+            n, t, d, day, q, ..
+        } = self.config;
+        format!("units faults losses day quorum\n{n} {t} {d} {day} {q}\nact unit sender number signers body\n")
     }
 
     /// Broadcasts at the node, and gives the row that says so.

@@ -2,7 +2,7 @@
 //! compared besides with taking on a copy of the records, by each of the two, and the records have to stay.
 //!
 //! `MBRB_CALLS` sets how many calls, `MBRB_SEED` another seed, both decimal. With fewer than three hundred thousand calls some code,
-//! record or n may be too rare, and the test fails for that.
+//! record, quorum or n may be too rare, and the test fails for that.
 
 #[path = "compare/arena.rs"]
 mod arena;
@@ -12,6 +12,8 @@ mod comparison;
 mod damage;
 #[path = "compare/node.rs"]
 mod node;
+#[path = "compare/quorums.rs"]
+mod quorums;
 #[path = "compare/records.rs"]
 mod records;
 #[path = "compare/system.rs"]
@@ -22,7 +24,9 @@ mod tally;
 use arena::{bundle, Arena, CONFIG, CONSTANT};
 use comparison::{call_both, Call, Difference, Implementation, Kind, HOST, REFERENCE};
 use mbrb::random::Random;
+use mbrb::reference::least_quorum;
 use mbrb::{host, reference, setting, Config};
+use quorums::{allowed, Choice, CHOICES};
 use system::System;
 use tally::Tally;
 
@@ -249,6 +253,112 @@ fn a_bad_config_accepted_is_found() {
     });
     assert_eq!(difference.codes[0], 1);
     assert_ne!(difference.codes[1], 1);
+}
+
+/// The config, but that a quorum of one kind is read as another: the least, or the most in place of the least.
+fn misread<const KIND: usize>(config: &Config) -> Config {
+    match Choice::of(config) {
+        Some(Choice::Least) if CHOICES[KIND] == Choice::Least => with_most_quorum(config),
+        choice if choice == Some(CHOICES[KIND]) => with_least_quorum(config),
+        _ => *config,
+    }
+}
+
+fn with_least_quorum(config: &Config) -> Config {
+    Config {
+        q: least_quorum(config.n, config.t),
+        ..*config
+    }
+}
+
+fn with_most_quorum(config: &Config) -> Config {
+    Config {
+        q: *allowed(config).end(),
+        ..*config
+    }
+}
+
+const fn misreading<const KIND: usize>() -> Implementation {
+    use reference::{broadcast_code, open_code, preview_code, receive_code};
+    Implementation {
+        open: |config, records| open_code(&misread::<KIND>(config), records),
+        broadcast: |config, payload, records, out| {
+            broadcast_code(&misread::<KIND>(config), payload, records, out)
+        },
+        receive: |config, bundle, records, out| {
+            receive_code(&misread::<KIND>(config), bundle, records, out)
+        },
+        preview: |config, bundle, records, out| {
+            preview_code(&misread::<KIND>(config), bundle, records, out)
+        },
+    }
+}
+
+#[test]
+fn a_quorum_misread_is_found() {
+    // All but the first, where there is no other quorum to take.
+    let wrong = [
+        misreading::<1>(),
+        misreading::<2>(),
+        misreading::<3>(),
+        misreading::<4>(),
+        misreading::<5>(),
+        misreading::<6>(),
+        misreading::<7>(),
+        misreading::<8>(),
+        misreading::<9>(),
+        misreading::<10>(),
+    ];
+    assert_eq!(wrong.len(), CHOICES.len() - 1);
+    for (wrong, choice) in wrong.into_iter().zip(&CHOICES[1..]) {
+        let difference = found(wrong);
+        assert_eq!(Choice::of(&difference.case.config), Some(*choice));
+        let refused = difference.codes.map(|code| code == 1);
+        assert_eq!(refused, [!choice.is_allowed(), false], "{choice:?}");
+    }
+}
+
+#[test]
+fn a_record_judged_by_the_least_quorum_is_found() {
+    let received = found(Implementation {
+        receive: |config, bundle, records, out| {
+            let code = reference::receive_code(config, bundle, records, out);
+            match code {
+                21 => reference::receive_code(&with_least_quorum(config), bundle, records, out),
+                _ => code,
+            }
+        },
+        ..REFERENCE
+    });
+    assert_eq!(received.codes, [21, 22]);
+    let announced = found(Implementation {
+        broadcast: |config, payload, records, out| {
+            let code = reference::broadcast_code(config, payload, records, out);
+            match code {
+                21 => reference::broadcast_code(&with_least_quorum(config), payload, records, out),
+                _ => code,
+            }
+        },
+        ..REFERENCE
+    });
+    assert_eq!(announced.codes[0], 21);
+    assert_ne!(announced.codes[1], 21);
+}
+
+#[test]
+fn another_payload_for_the_least_quorum_is_found() {
+    let difference = found(Implementation {
+        receive: |config, bundle, records, out| {
+            let code = reference::receive_code(config, bundle, records, out);
+            match code {
+                24 => reference::receive_code(&with_least_quorum(config), bundle, records, out),
+                _ => code,
+            }
+        },
+        ..REFERENCE
+    });
+    assert_eq!(difference.codes, [24, 102]);
+    assert!(difference.records_differ() && difference.outs_differ());
 }
 
 /// What it says of a wrong preview: beside the reference's, and where both have it, so that only taking is right.

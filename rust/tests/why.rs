@@ -9,11 +9,16 @@ mod damage;
 #[allow(dead_code)]
 #[path = "runs/files.rs"]
 mod files;
+#[allow(dead_code)]
+#[path = "runs/heads.rs"]
+mod heads;
 
 use mbrb::random::Random;
-use mbrb::{program_under_test, setting};
+use mbrb::reference::least_quorum;
+use mbrb::{program_under_test, setting, Config};
 use std::collections::{BTreeMap, BTreeSet};
 use std::fs::{self, File};
+use std::ops::RangeInclusive;
 use std::path::{Path, PathBuf};
 use std::process::{Command, Output};
 use std::thread;
@@ -24,7 +29,7 @@ const SEED: u64 = 1;
 const FIRST: u64 = 1_300;
 
 /// Reasons that have to be given somewhere, each by a part of its message. tests/play has a file for each of the rarer ones.
-const REASONS: [&str; 37] = [
+const REASONS: [&str; 42] = [
     "the input is empty",
     "the text is UTF-16",
     "a byte order mark stands before",
@@ -34,7 +39,9 @@ const REASONS: [&str; 37] = [
     "where the table is due",
     "\" is due, in small letters",
     "is missing: \"",
-    "where 4 are due",
+    "word 5 is missing: \"units",
+    "4 numbers where 5 are due",
+    "6 numbers where 5 are due",
     "it starts with",
     "it ends in a carriage return",
     "it ends in a space",
@@ -46,6 +53,9 @@ const REASONS: [&str; 37] = [
     "it is at most 255",
     "it is at most 4294967295",
     "units, and a run has 8 at most",
+    "losses it is ",
+    "quorum is \"0\": with",
+    "quorum is \"4294967295\": with",
     "more than 120 bytes",
     "fields where 6 are due",
     "the act is A or B",
@@ -263,20 +273,40 @@ fn the_diagnosis_explains_what_the_program_does_not_read_and_nothing_else() {
     assert_eq!(unseen.collect::<Vec<_>>(), [&""; 0], "never seen");
 }
 
+/// Every quorum that a table may have and those beside them; of a table that may have none, what would be the least.
+fn quorums(n: u8, t: u8, d: u8) -> RangeInclusive<u32> {
+    let config = Config {
+        n,
+        t,
+        d,
+        own: 0,
+        day: 7,
+        q: 0,
+    };
+    let least = least_quorum(n, t);
+    match config.quorums() {
+        Some(quorums) => least - 1..=quorums.end() + 1,
+        None => least..=least,
+    }
+}
+
 #[test]
 fn the_diagnosis_judges_each_small_table_as_the_program_does() {
     let judge = Judge::new("tables");
-    let mut bad = 0;
+    let [mut tables, mut good] = [0; 2];
     for (n, t, d) in
         (0..=9).flat_map(|n| (0..=3).flat_map(move |t| (0..=4).map(move |d| (n, t, d))))
     {
-        let table = format!(
-            "units faults losses day\n{n} {t} {d} 7\nact unit sender number signers body\n"
-        );
-        let messages = judge.agree(&format!("table-{n}-{t}-{d}"), table.as_bytes());
-        bad += usize::from(!messages.is_empty());
+        for q in quorums(n, t, d) {
+            let table = format!(
+                "units faults losses day quorum\n{n} {t} {d} 7 {q}\nact unit sender number signers body\n"
+            );
+            let messages = judge.agree(&format!("table-{n}-{t}-{d}-{q}"), table.as_bytes());
+            tables += 1;
+            good += usize::from(messages.is_empty());
+        }
     }
-    println!("{bad} of 200 tables are bad");
-    assert_eq!(bad, 169);
+    println!("{good} of {tables} tables are good");
+    assert_eq!([good, tables], [56, 321]);
     judge.remove_folder();
 }

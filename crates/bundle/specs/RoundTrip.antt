@@ -14,7 +14,8 @@ use Rattle.config.specs.Config.{good}
 use Rattle.bundle.specs.declared.Header.{Header}
 use Rattle.bundle.specs.Bundle.{bundleSize, read, payloadPart, headerOfDay, write}
 
--- Two nodes that send each other bundles: the second's configuration is good and has the first's n and day. Own number, t and d may differ.
+-- Two nodes that send each other bundles: the second's configuration is good and has the first's n and day. Own number, t, d and quorum may differ; of the
+-- first's, that it wrote or accepted the bundle says that it is good.
 pub record Peers (first second : Config) : Type 0 where
   pub configured : good second ≡ true
   pub nodes : second .n ≡ first .n

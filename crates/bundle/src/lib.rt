@@ -133,8 +133,8 @@ pub fn encode(header: Header, payload: Payload, out: &mut [u8])
     octets::fill(out, first, header.signers, payload.high, payload.low);
 }
 
-// The 32 bytes of a bundle in the slot of another one, whose first eight bytes are copied: no field is checked, of
-// neither. If a slice has another length, `out` stays as it is.
+// The 32 bytes of a bundle in the slot of another one, whose first eight bytes are copied. Neither bundle is checked.
+// If a slice has another length, `out` stays as it is.
 pub fn encode_like(bundle: &[u8], signers: u64, payload: Payload, out: &mut [u8])
     ensures { λ _. ⌜ now (out .exit) ≡ encodedLike (now (bundle .entry)) signers (bytes payload) (now (out .entry)) ⌝ }
 {

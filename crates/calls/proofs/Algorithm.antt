@@ -9,7 +9,7 @@ use Rattle.octets.proofs.Same.{blank-says}
 use Rattle.refusal.specs.Outcome.{done}
 use Rattle.config.specs.declared.Config.{Config}
 use Rattle.config.specs.Config.{good, quorum, recordSize, recordsSize, inRange, slotOfDay}
-use Rattle.config.proofs.Laws.{good-says, quorum-strict}
+use Rattle.config.proofs.Laws.{good-says, quorum-intersects}
 use Rattle.bundle.specs.Bundle.{payloadIn, headerIn, payloadPart, slotOf, slotIn}
 use Rattle.bundle.proofs.Accepted.{unsigned-says}
 use Rattle.protocol.specs.Update.{Record, Empty, Held, Delivered, sends, Update, announcedBy}
@@ -22,7 +22,7 @@ use Rattle.config.specs.declared.Slot.{Slot}
 use Rattle.calls.specs.Records.{recordAt, stored, ownSlot}
 use Rattle.calls.specs.Open.{openRecords}
 use Rattle.calls.specs.Receive.{recordBundle, receive, receiveRecords, receiveOut}
-use Rattle.calls.specs.Algorithm.{recordOf, QuorumIsLine9, OpenStarts, BroadcastFollows, UnsignedFollows, ReceiveFollows}
+use Rattle.calls.specs.Algorithm.{recordOf, StricterQuorumWaits, OpenStarts, BroadcastFollows, UnsignedFollows, ReceiveFollowsBy, ReceiveFollows, LeastQuorumFollowsArticle}
 use Rattle.calls.proofs.Records.{recordAt-length, stored-there, zeros-at}
 use Rattle.calls.proofs.Refusals.{opened-done, broadcast-effect, receive-left, receive-unread, receive-updated}
 use Rattle.calls.proofs.LowestFree.{broadcast-done}
@@ -41,8 +41,9 @@ record-stored config records slot r g l range fine =
     let whole = encoding-length r (λ some. well-formed-bundled (config .n) (slot .sender) (quorum config) (config .own) r some fine .whole) in
     ap decoded (stored-there config g records l slot range (encoding r) whole) ∙ decoded-encoding (config .n) (slot .sender) (quorum config) (config .own) (good-says config g .most) r fine
 
-pub quorum-is-line9 : QuorumIsLine9
-quorum-is-line9 config k g = quorum-strict config k g
+pub stricter-quorum-waits : StricterQuorumWaits
+stricter-quorum-waits config sender m σ g =
+    values.stricter-quorum-waits (config .own) (config .n) (config .t) (quorum config) sender m σ (quorum-intersects config g)
 
 pub open-starts : OpenStarts
 unfolding openRecords
@@ -66,7 +67,7 @@ broadcast-follows config payload records out seq e =
 
 pub unsigned-follows : UnsignedFollows
 unsigned-follows config bundle records out σ e =
-    let (state, effects) = values.unsigned-ignored (config .own) (quorum config) (headerIn bundle .sender) (headerIn bundle .signers) (payloadIn bundle) σ
+    let (state, effects) = values.unsigned-ignored (config .own) (algorithm.atLeast (quorum config)) (headerIn bundle .sender) (headerIn bundle .signers) (payloadIn bundle) σ
     (unsigned-says config bundle e) in
     (receive-unread config bundle records out 8 e, state, effects)
 
@@ -80,7 +81,7 @@ pub receive-follows : ReceiveFollows
 receive-follows config bundle records out h e o l formed =
     let ok = read-says config bundle h e in
     let taken = receive-updated config bundle records out h e o l formed in (
-      subst (algorithm.Follows (config .own) (quorum config) (h .sender) (h .signers) (payloadPart config bundle) (recordOf config (slotOf h) records)) (sym taken)
+      subst (algorithm.Follows (config .own) (algorithm.atLeast (quorum config)) (h .sender) (h .signers) (payloadPart config bundle) (recordOf config (slotOf h) records)) (sym taken)
           (values.update-follows (config .own) (quorum config) (h .sender) (h .signers) (payloadPart config bundle) (recordOf config (slotOf h) records)
           (ok .bundled .authentic)
           (has-own config (h .sender) (recordOf config (slotOf h) records)
@@ -100,3 +101,7 @@ receive-follows config bundle records out h e o l formed =
     written : (result : Update) → receive config bundle records out ≡ done result → slotIn bundle ≡ slotOf h
         → receiveOut config bundle records out ≡ cond (sends (result .answer)) (recordBundle (slotOf h) (result .newRecord)) out
     written result f q = receive-left config bundle records out result f .1 ∙ rw q
+
+pub least-quorum-follows-article : LeastQuorumFollowsArticle
+least-quorum-follows-article config least =
+    subst (ReceiveFollowsBy config) (ap algorithm.atLeast least ∙ values.least-quorum-is-line9 (config .n) (config .t)) (receive-follows config)

@@ -1,8 +1,8 @@
 -- What `good` says, and what of the quorum the protocol's argument rests on. Callers go by these laws and not by the formulas.
--- The argument on values rests on `quorum-intersects` and `quorum-reachable` (R2.8), and the claim of RULES section 14 on `quorum-shared` besides: another
--- quorum within the same bounds, and the same at all nodes, would meet them. `quorum-strict` is about the quorum of Algorithm 1 (R13.7).
+-- The argument on values rests on `quorum-intersects` and `quorum-reachable` (R2.8), which hold of any quorum in range, and the claim of RULES section 14
+-- on `good-at-node` and `quorum-at-node` besides: that all nodes have it.
 -- Assumes nothing.
-use mathlib.Core.Path.{_≡_, refl, ap, ap₂, _∙_}
+use mathlib.Core.Path.{_≡_, refl, sym, ap, ap₂, _∙_}
 use mathlib.Core.Bool.{Bool, true, false, and-eq-true-iff}
 use Prim.Native.Nat.{ℕ, _+_, _-_, _*_, _/_, _≤_, _<_}
 use native.Mathlib.Nat.{not-le-of-lt}
@@ -14,29 +14,47 @@ use Rattle.config.specs.declared.Config.{Config}
 use Rattle.config.specs.declared.Slot.{Slot}
 use Rattle.signers.specs.Sets.{NodeSet, count}
 use Rattle.signers.specs.Signers.{member, below, within, size}
-use Rattle.signers.proofs.Counting.{more-than-half}
 use Rattle.signers.proofs.Members.{lt-within, within-lt, below-ones, member-ones, words-share-correct}
-use Rattle.config.specs.Config.{good, quorum, mask, slots, inRange, sameSlot, recordSize, slotPlace, place, recordsSize}
+use Rattle.config.specs.Config.{leastQuorum, mostQuorum, withOwn, good, quorum, mask, slots, inRange, sameSlot, recordSize, slotPlace, place, recordsSize}
 
--- The four bounds of a good configuration.
+-- The six bounds of a good configuration.
 pub record Good (config : Config) : Type 0 where
   pub some : 1 ≤ config .n
   pub most : config .n ≤ 64
   pub resilient : 3 * config .t + 2 * config .d < config .n
   pub known : config .own < config .n
+  pub least-quorum : leastQuorum (config .n) (config .t) ≤ config .q
+  pub most-quorum : config .q ≤ mostQuorum (config .n) (config .t) (config .d)
 
 -- what `good` tests, as bounds, and back
 pub good-says : (config : Config) → good config ≡ true → Good config
 unfolding good
 good-says config e =
-    let (first, known) = and-eq-true-iff _ _ .0 e in
+    let (chosen, most-quorum) = and-eq-true-iff _ _ .0 e in
+    let (nodes, least-quorum) = and-eq-true-iff _ _ .0 chosen in
+    let (first, known) = and-eq-true-iff _ _ .0 nodes in
     let (range, resilient) = and-eq-true-iff _ _ .0 first in
     let (some, most) = and-eq-true-iff _ _ .0 range in
-    record { some = leb-true _ _ some; most = leb-true _ _ most; resilient = ltb-true _ _ resilient; known = ltb-true _ _ known }
+    record {
+      some = leb-true _ _ some;
+      most = leb-true _ _ most;
+      resilient = ltb-true _ _ resilient;
+      known = ltb-true _ _ known;
+      least-quorum = leb-true _ _ least-quorum;
+      most-quorum = leb-true _ _ most-quorum;
+    }
 
 pub says-good : (config : Config) → Good config → good config ≡ true
 unfolding good
-says-good config g = simp (le-leb _ _ (g .some), le-leb _ _ (g .most), lt-ltb _ _ (g .resilient), lt-ltb _ _ (g .known))
+says-good config g =
+    simp (
+      le-leb _ _ (g .some),
+      le-leb _ _ (g .most),
+      lt-ltb _ _ (g .resilient),
+      lt-ltb _ _ (g .known),
+      le-leb _ _ (g .least-quorum),
+      le-leb _ _ (g .most-quorum),
+    )
 
 -- a configuration that breaks a bound is not good
 pub not-good : (config : Config) → (Good config → ⊥) → good config ≡ false
@@ -45,6 +63,20 @@ not-good config h = go (good config) refl
     go : (b : Bool) → good config ≡ b → good config ≡ false
     go true e = absurd (h (good-says config e))
     go false e = e
+
+-- where it is good at one node, it is good at each
+pub good-at-node : (config : Config) (node : ℕ) → good config ≡ true → node < config .n → good (withOwn config node) ≡ true
+unfolding withOwn
+good-at-node config node e known =
+    let g = good-says config e in
+    says-good (withOwn config node) (record {
+      some = g .some;
+      most = g .most;
+      resilient = g .resilient;
+      known = known;
+      least-quorum = g .least-quorum;
+      most-quorum = g .most-quorum;
+    })
 
 -- the mask is the nodes below n
 pub mask-below : (config : Config) → good config ≡ true → below (config .n) ≡ mask config
@@ -115,10 +147,16 @@ pub mask-members : (config : Config) (node : ℕ) → good config ≡ true → m
 unfolding mask
 mask-members config node e = rw e (member-ones (config .n) node)
 
+-- ---- the quorum
+
+-- R2.3: the quorum of a good configuration is the one that the site chose
+pub quorum-chosen : (config : Config) → good config ≡ true → quorum config ≡ config .q
+unfolding quorum
+quorum-chosen config e = rw e
+
 -- R2.8: twice a quorum is more than n + t, so that two quorums share more than t nodes
 pub quorum-intersects : (config : Config) → good config ≡ true → config .n + config .t < quorum config + quorum config
-unfolding quorum
-quorum-intersects config e = rw e (omega arith)
+quorum-intersects config e = let least = good-says config e .least-quorum in rw (quorum-chosen config e) (omega arith)
 
 -- so two signer sets of a quorum each share a correct node
 pub signers-share-correct : (config : Config) (a b : ℕ) (faulty : NodeSet) → good config ≡ true → within a (config .n) ≡ true → within b (config .n) ≡ true
@@ -129,15 +167,9 @@ signers-share-correct config a b faulty g ha hb few qa qb =
 
 -- R2.8: the correct nodes that every sending reaches are a quorum by themselves: q is at most n - t - d
 pub quorum-reachable : (config : Config) → good config ≡ true → quorum config + config .t + config .d ≤ config .n
-unfolding quorum
-quorum-reachable config e = let g = good-says config e in rw e (omega arith)
+quorum-reachable config e = let g = good-says config e in rw (quorum-chosen config e) (omega arith)
 
--- R13.7: a quorum is what line 9 of Algorithm 1 asks for, strictly more than (n + t)/2
-pub quorum-strict : (config : Config) (k : ℕ) → good config ≡ true → leb (quorum config) k ≡ ltb (config .n + config .t) (k + k)
-unfolding quorum
-quorum-strict config k e = rw e (more-than-half (config .n + config .t) k)
-
--- good configurations with the same n and t have one quorum
-pub quorum-shared : (config other : Config) → config .n ≡ other .n → config .t ≡ other .t → good config ≡ true → good other ≡ true → quorum config ≡ quorum other
-unfolding quorum
-quorum-shared config other n t g h = rw (g, h, n, t)
+-- all nodes of a system have one quorum
+pub quorum-at-node : (config : Config) (node : ℕ) → good config ≡ true → node < config .n → quorum (withOwn config node) ≡ quorum config
+unfolding withOwn
+quorum-at-node config node e known = quorum-chosen (withOwn config node) (good-at-node config node e known) ∙ sym (quorum-chosen config e)

@@ -7,20 +7,39 @@ use lib.Dec.{leb, ltb, eqb}
 use Rattle.config.specs.declared.Config.{Config}
 use Rattle.config.specs.declared.Slot.{Slot}
 
--- the configuration of a system, at node 0; and of the same system at another node (R14.2, R15.2)
+-- R2.1: a configuration by its six numbers, of which the last is the quorum that the site chose
+abbrev pub configOf : (n t d own day q : ℕ) → Config
+configOf n t d own day q = record { n = n; t = t; d = d; own = own; day = day; q = q }
+
+-- R2.9: the least quorum that a site may choose is half of n + t, the fraction dropped, plus 1; the most is n - t - d
+abbrev pub leastQuorum : (n t : ℕ) → ℕ
+leastQuorum n t = (n + t) / 2 + 1
+
+abbrev pub mostQuorum : (n t d : ℕ) → ℕ
+mostQuorum n t d = n - t - d
+
+-- the configuration of a system with the least quorum, at node 0; the same with another quorum; and the same at another node (R14.2, R15.2)
 unfoldable pub configFor : (n t d day : ℕ) → Config
-configFor n t d day = record { n = n; t = t; d = d; own = 0; day = day }
+configFor n t d day = configOf n t d 0 day (leastQuorum n t)
+
+unfoldable pub withQuorum : Config → (q : ℕ) → Config
+withQuorum config q = configOf (config .n) (config .t) (config .d) (config .own) (config .day) q
 
 unfoldable pub withOwn : Config → (own : ℕ) → Config
-withOwn config own = record { n = config .n; t = config .t; d = config .d; own = own; day = config .day }
+withOwn config own = configOf (config .n) (config .t) (config .d) own (config .day) (config .q)
 
--- R2.2: there are 1 to 64 nodes, more than 3t + 2d, and we are one of them
+-- R2.2: there are 1 to 64 nodes, more than 3t + 2d, we are one of them, and the site chose a quorum from the least to the most
 unfoldable pub good : Config → Bool
-good config = leb 1 (config .n) && leb (config .n) 64 && ltb (3 * config .t + 2 * config .d) (config .n) && ltb (config .own) (config .n)
+good config =
+    leb 1 (config .n) && leb (config .n) 64
+    && ltb (3 * config .t + 2 * config .d) (config .n)
+    && ltb (config .own) (config .n)
+    && leb (leastQuorum (config .n) (config .t)) (config .q)
+    && leb (config .q) (mostQuorum (config .n) (config .t) (config .d))
 
--- R2.3: half of n + t, the fraction dropped, plus 1; 0 if the configuration is not good (R2.5)
+-- R2.3: the quorum is the one that the site chose; 0 if the configuration is not good (R2.5)
 unfoldable pub quorum : Config → ℕ
-quorum config = cond (good config) ((config .n + config .t) / 2 + 1) 0
+quorum config = cond (good config) (config .q) 0
 
 -- R2.4: the word of all nodes, bits 0 to n - 1; 0 if the configuration is not good (R2.5)
 unfoldable pub mask : Config → ℕ

@@ -5,13 +5,31 @@
 // is not good has quorum 0, mask 0 and place 0 (R2.5). A caller asks `good` first: every set has a quorum of 0,
 // and 0 is the place of a slot, too.
 ghost use mathlib.Core.Path.{_≡_};
-ghost use Rattle.config.specs.Config.{good, quorum, mask, slotPlace, place, recordsSize, withOwn, slotOfDay};
+ghost use Rattle.config.specs.Config.{configOf, leastQuorum, mostQuorum, good, quorum, mask, slotPlace, place, recordsSize, withOwn, slotOfDay};
 
 // Slots of one sender in a day.
 pub const SLOTS: u8 = 16;
 
 // Bytes of one record, and so the distance from one slot's place to the next.
 pub const RECORD_SIZE: usize = 32;
+
+// R2.9: the least quorum that a site may choose.
+pub fn least_quorum(n: u8, t: u8) -> u32
+    ensures { λ r. ⌜ r ≡ leastQuorum n t ⌝ }
+{
+    (n as u32 + t as u32) / 2 + 1
+}
+
+// R2.9: the most that a site may choose. Where n is not more than 3t + 2d it is less than the least.
+pub fn most_quorum(n: u8, t: u8, d: u8) -> u32
+    ensures { λ r. ⌜ r ≡ mostQuorum n t d ⌝ }
+{
+    let missing = t as u32 + d as u32;
+    if (n as u32) < missing {
+        return 0;
+    }
+    n as u32 - missing
+}
 
 // R2.6: what a broadcast has to itself. It is the sender's `seq`-th of the day, counted from 0.
 pub struct Slot {
@@ -40,20 +58,39 @@ pub struct Config {
     // the number of this node
     pub own: u8,
     pub day: u32,
+    // the quorum that the site chose; `quorum` tells it
+    q: u32,
 }
 
 impl Config {
-    // R2.2: whether the protocol can run on this configuration. No call works on one that is not good.
+    // R2.1: the configuration of these numbers, which may be any.
+    pub fn new(n: u8, t: u8, d: u8, own: u8, day: u32, q: u32) -> Config
+        ensures { λ r. ⌜ r ≡ configOf n t d own day q ⌝ }
+    {
+        Config {
+            n,
+            t,
+            d,
+            own,
+            day,
+            q,
+        }
+    }
+
+    // R2.2: whether the protocol can run on this configuration. No call works on one that is not good. The quorum
+    // may be any number of 32 bits, so it is added to in 64. That n is more than 3t + 2d needs no test: where it
+    // is not, there is no quorum in range (R2.8). The own number comes last, since the compiler joins its test and
+    // that of 64 into flags where they stand together, which costs more than both.
     pub fn good(self) -> bool
         ensures { λ r. ⌜ r ≡ good self ⌝ }
     {
-        if self.n < 1 {
-            return false;
-        }
         if 64 < self.n {
             return false;
         }
-        if (self.n as u32) <= 3 * (self.t as u32) + 2 * (self.d as u32) {
+        if (self.n as u64) < (self.q as u64) + (self.t as u64) + (self.d as u64) {
+            return false;
+        }
+        if 2 * (self.q as u64) <= (self.n as u64) + (self.t as u64) {
             return false;
         }
         if self.n <= self.own {
@@ -69,7 +106,7 @@ impl Config {
         if !self.good() {
             return 0;
         }
-        (self.n as u32 + self.t as u32) / 2 + 1
+        self.q
     }
 
     // R2.4: the signer set of all nodes.
@@ -86,13 +123,7 @@ impl Config {
     pub fn with_own(self, own: u8) -> Config
         ensures { λ r. ⌜ r ≡ withOwn self own ⌝ }
     {
-        Config {
-            n: self.n,
-            t: self.t,
-            d: self.d,
-            own,
-            day: self.day,
-        }
+        Config::new(self.n, self.t, self.d, own, self.day, self.q)
     }
 
     // A slot of the configuration's day.

@@ -14,10 +14,6 @@ use Rattle.calls.specs.Open.{opened, openRecords}
 use Rattle.calls.specs.Broadcast.{broadcast, broadcastRecords, broadcastOut}
 use Rattle.calls.specs.Receive.{receive, receiveRecords, receiveOut}
 
--- R11.1: a host gives the table as five numbers.
-abbrev pub configOf : ℕ → ℕ → ℕ → ℕ → ℕ → Config
-configOf n t d own day = record { n = n; t = t; d = d; own = own; day = day }
-
 -- R11.2: a refusal's code is its number, whichever call it is of. Opening that is done has the code 0;
 abbrev pub openedCode : {A : Type 0} → Outcome A → ℕ
 openedCode (refused number) = number

@@ -8,19 +8,27 @@ use config::Config;
 use refusal::Verdict;
 ghost use mathlib.Core.Path.{_≡_};
 ghost use Rattle.refusal.specs.Refusal.{verdictOf};
+ghost use Rattle.config.specs.Config.{configOf};
 ghost use Rattle.calls.specs.Open.{opened, openRecords};
 ghost use Rattle.calls.specs.Broadcast.{broadcast, broadcastRecords, broadcastOut, announcementOf};
 ghost use Rattle.calls.specs.Receive.{receive, receiveRecords, receiveOut, receiptOf};
-ghost use Rattle.mbrb.specs.Code.{configOf, openedCode, announcedCode, receivedCode, reportedCode};
+ghost use Rattle.mbrb.specs.Code.{openedCode, announcedCode, receivedCode, reportedCode};
 
 // Opens the day: makes every record empty. The code is 0, or the refusal's number.
 #[no_mangle]
-pub extern "C" fn mbrb_open(n: u8, t: u8, d: u8, own: u8, day: u32, records: &mut [u8]) -> u32
-    ensures { λ r. ⌜ r ≡ openedCode (opened (configOf n t d own day) (now (records .entry))) ⌝ }
-    ensures { λ _. ⌜ now (records .exit) ≡ openRecords (configOf n t d own day) (now (records .entry)) ⌝ }
+pub extern "C" fn mbrb_open(
+    n: u8,
+    t: u8,
+    d: u8,
+    own: u8,
+    day: u32,
+    quorum: u32,
+    records: &mut [u8],
+) -> u32
+    ensures { λ r. ⌜ r ≡ openedCode (opened (configOf n t d own day quorum) (now (records .entry))) ⌝ }
+    ensures { λ _. ⌜ now (records .exit) ≡ openRecords (configOf n t d own day quorum) (now (records .entry)) ⌝ }
 {
-    let config = config(n, t, d, own, day);
-    verdict_code(calls::open(config, records))
+    verdict_code(calls::open(Config::new(n, t, d, own, day, quorum), records))
 }
 
 // Broadcasts a payload. The code is 200 plus the sequence number, or the refusal's number.
@@ -31,15 +39,16 @@ pub extern "C" fn mbrb_broadcast(
     d: u8,
     own: u8,
     day: u32,
+    quorum: u32,
     payload: &[u8],
     records: &mut [u8],
     out: &mut [u8],
 ) -> u32
-    ensures { λ r. ⌜ r ≡ announcedCode (broadcast (configOf n t d own day) (now (payload .entry)) (now (records .entry)) (now (out .entry))) ⌝ }
-    ensures { λ _. ⌜ now (records .exit) ≡ broadcastRecords (configOf n t d own day) (now (payload .entry)) (now (records .entry)) (now (out .entry)) ⌝ }
-    ensures { λ _. ⌜ now (out .exit) ≡ broadcastOut (configOf n t d own day) (now (payload .entry)) (now (records .entry)) (now (out .entry)) ⌝ }
+    ensures { λ r. ⌜ r ≡ announcedCode (broadcast (configOf n t d own day quorum) (now (payload .entry)) (now (records .entry)) (now (out .entry))) ⌝ }
+    ensures { λ _. ⌜ now (records .exit) ≡ broadcastRecords (configOf n t d own day quorum) (now (payload .entry)) (now (records .entry)) (now (out .entry)) ⌝ }
+    ensures { λ _. ⌜ now (out .exit) ≡ broadcastOut (configOf n t d own day quorum) (now (payload .entry)) (now (records .entry)) (now (out .entry)) ⌝ }
 {
-    let config = config(n, t, d, own, day);
+    let config = Config::new(n, t, d, own, day, quorum);
     announcement_code(calls::broadcast(config, payload, records, out))
 }
 
@@ -51,23 +60,17 @@ pub extern "C" fn mbrb_receive(
     d: u8,
     own: u8,
     day: u32,
+    quorum: u32,
     bundle: &[u8],
     records: &mut [u8],
     out: &mut [u8],
 ) -> u32
-    ensures { λ r. ⌜ r ≡ receivedCode (receive (configOf n t d own day) (now (bundle .entry)) (now (records .entry)) (now (out .entry))) ⌝ }
-    ensures { λ _. ⌜ now (records .exit) ≡ receiveRecords (configOf n t d own day) (now (bundle .entry)) (now (records .entry)) (now (out .entry)) ⌝ }
-    ensures { λ _. ⌜ now (out .exit) ≡ receiveOut (configOf n t d own day) (now (bundle .entry)) (now (records .entry)) (now (out .entry)) ⌝ }
+    ensures { λ r. ⌜ r ≡ receivedCode (receive (configOf n t d own day quorum) (now (bundle .entry)) (now (records .entry)) (now (out .entry))) ⌝ }
+    ensures { λ _. ⌜ now (records .exit) ≡ receiveRecords (configOf n t d own day quorum) (now (bundle .entry)) (now (records .entry)) (now (out .entry)) ⌝ }
+    ensures { λ _. ⌜ now (out .exit) ≡ receiveOut (configOf n t d own day quorum) (now (bundle .entry)) (now (records .entry)) (now (out .entry)) ⌝ }
 {
-    let config = config(n, t, d, own, day);
+    let config = Config::new(n, t, d, own, day, quorum);
     receipt_code(calls::receive(config, bundle, records, out))
-}
-
-// The configuration that a host gives as numbers.
-pub fn config(n: u8, t: u8, d: u8, own: u8, day: u32) -> Config
-    ensures { λ r. ⌜ r ≡ configOf n t d own day ⌝ }
-{
-    Config { n, t, d, own, day }
 }
 
 fn verdict_code(verdict: Verdict) -> u32

@@ -1,4 +1,4 @@
--- Facts from tests that are computed: about every member of a written-out list, and that two tests agree.
+-- Facts from tests: about every member of a written-out list, from one that is computed, and that two tests agree.
 -- Assumes nothing.
 use mathlib.Core.Path.{_≡_, refl, sym, ap, _∙_}
 use mathlib.Core.Bool.{Bool, true, false, _&&_, Bool·beq, and-eq-true-iff}
@@ -20,3 +20,9 @@ agree-says true true e = refl
 agree-says true false e = sym e
 agree-says false true e = e
 agree-says false false e = refl
+
+-- two tests agree where each passes if the other does
+pub agree-both : (a b : Bool) → (a ≡ true → b ≡ true) → (b ≡ true → a ≡ true) → a ≡ b
+agree-both true b there back = sym (there refl)
+agree-both false true there back = back refl
+agree-both false false there back = refl

@@ -1,5 +1,5 @@
 // Runs the examples that docs/RULES.md gives and writes what the library answers; the file `stdout` holds what
-// the rules say. First the tables (R2.7) and one more, then the bundles that the layout (R3.1) makes of the
+// the rules say. First the tables (R2.7) and a few more, then the bundles that the layout (R3.1) makes of the
 // steps of the first run (R16.5), written and read back, then each reason for which reading and writing refuse
 // (R5.3).
 use bundle::Reading;
@@ -14,51 +14,48 @@ fn main() {
 }
 
 fn tables() {
-    text(b"units faults losses quorum\n");
-    table(1, 0, 0);
-    table(2, 0, 0);
-    table(4, 1, 0);
-    table(6, 1, 1);
-    table(64, 21, 0);
-    table(64, 0, 31);
-    table(0, 0, 0);
-    table(5, 1, 1);
-    table(64, 0, 32);
-    table(65, 0, 0);
-    // Where half of n + t, rounded up, would give 3 (R17.5).
-    table(5, 1, 0);
+    text(b"units faults losses chosen quorum\n");
+    table(1, 0, 0, 1);
+    table(2, 0, 0, 2);
+    table(4, 1, 0, 3);
+    table(6, 1, 1, 4);
+    table(64, 21, 0, 43);
+    table(64, 0, 31, 33);
+    table(0, 0, 0, 1);
+    table(5, 1, 1, 4);
+    table(64, 0, 32, 33);
+    table(65, 0, 0, 33);
+    // Half of n + t, rounded up, is 3 here and too few (R17.5).
+    table(5, 1, 0, 3);
+    table(5, 1, 0, 4);
+    // What a site with these units may choose (R2.11), and what it may not.
+    table(8, 1, 1, 0);
+    table(8, 1, 1, 4);
+    table(8, 1, 1, 5);
+    table(8, 1, 1, 6);
+    table(8, 1, 1, 7);
+    table(8, 1, 1, 0xffff_ffff);
 }
 
-fn table(n: u8, t: u8, d: u8) {
-    let config = day_seven(n, t, d, 0);
+// The numbers of a table, and the quorum that it gives, which is 0 if it is not good.
+fn table(n: u8, t: u8, d: u8, q: u32) {
+    let config = Config::new(n, t, d, 0, 7, q);
     decimal(n as u64);
     text(b" ");
     decimal(t as u64);
     text(b" ");
     decimal(d as u64);
-    if config.good() {
-        text(b" ");
-        decimal(config.quorum() as u64);
-        text(b"\n");
-    } else {
-        text(b" bad\n");
-    }
+    text(b" ");
+    decimal(q as u64);
+    text(b" ");
+    decimal(config.quorum() as u64);
+    text(b"\n");
 }
 
-// A configuration on day 7, the day of all examples.
-fn day_seven(n: u8, t: u8, d: u8, own: u8) -> Config {
-    Config {
-        n,
-        t,
-        d,
-        own,
-        day: 7,
-    }
-}
-
-// The play's configuration at one of its nodes: four nodes, one of which may lie.
+// The play's configuration at one of its nodes: four nodes, one of which may lie, on day 7, with the least
+// quorum, which is 3.
 fn play(own: u8) -> Config {
-    day_seven(4, 1, 0, own)
+    Config::new(4, 1, 0, own, 7, config::least_quorum(4, 1))
 }
 
 // The bundles of the play's steps, by step: node, then the bytes, then what that node reads in them.

@@ -50,15 +50,9 @@ fn main() {
     refusals::all(records1, records2, sent1);
 }
 
-// The configuration at one of the run's four nodes, of which one may lie, on day 7.
+// The configuration at one of the run's four nodes, of which one may lie, on day 7, with the least quorum, which is 3.
 fn node(own: u8) -> Config {
-    Config {
-        n: 4,
-        t: 1,
-        d: 0,
-        own,
-        day: 7,
-    }
+    Config::new(4, 1, 0, own, 7, config::least_quorum(4, 1))
 }
 
 // A node's records at the start of its day. The buffer may hold anything before. If opening refused and left
@@ -242,13 +236,7 @@ fn quorum_heard(before: [u8; RECORDS_SIZE], bundle: &[u8]) {
 // Four nodes, one of which may lie; we are node 1, on day 7. A bundle has come in. Whether there is
 // something to send: it stands in `out` then, 32 bytes for all nodes.
 fn to_send(bundle: &[u8], records: &mut [u8], out: &mut [u8]) -> bool {
-    let config = Config {
-        n: 4,
-        t: 1,
-        d: 0,
-        own: 1,
-        day: 7,
-    };
+    let config = Config::new(4, 1, 0, 1, 7, config::least_quorum(4, 1));
     match calls::receive(config, bundle, records, out) {
         Receipt::Signed(_) => true,
         Receipt::Delivered(_) => true,

@@ -1,14 +1,15 @@
 -- R13.1 on values: what specs/Algorithm.antt claims. Broadcasting on an empty record does what mbrb_broadcast does, and receiving does what the
--- algorithm does with the bundle, up to the differences of R13.2 to R13.4. By cases on the record, then on the tests of receiving.
+-- algorithm does with the bundle, up to the differences of R13.2 to R13.4 and R13.8. By cases on the record, then on the tests of receiving.
 -- Assumes nothing.
-use mathlib.Core.Path.{_≡_, refl, sym, ap, _∙_}
+use mathlib.Core.Path.{_≡_, refl, sym, ap, fun-ext, _∙_}
 use mathlib.Core.Logic.{inl, inr}
 use mathlib.Core.Bool.{Bool, true, false, cond, not, _&&_, and-false, true≢false}
 use mathlib.Core.List.{List, [], _∷_, _++_}
-use Prim.Native.Nat.{ℕ, _+_, _^_}
+use Prim.Native.Nat.{ℕ, _+_, _^_, _<_}
+use native.Mathlib.Omega.{arith}
 use lib.Bits.{bitOr, or-zero-l, or-zero-r}
 use lib.Dec.{leb, ltb, eqb}
-use borrow.Author.Tests.{ltb-true, lt-leb, eq-eqb, eqb-true, eqb-false, le-leb, ltb-false}
+use borrow.Author.Tests.{ltb-true, leb-true, leb-false, lt-leb, eq-eqb, eqb-true, eqb-false, le-leb, ltb-false}
 use Rattle.octets.specs.Octets.{same}
 use Rattle.octets.proofs.Same.{same-says, same-self, same-flip}
 use Rattle.signers.specs.Signers.{member, insert, without, union, size}
@@ -16,7 +17,7 @@ use Rattle.signers.proofs.Counting.{more-than-half}
 use Rattle.signers.proofs.Members.{nobody, member-without}
 use Rattle.refusal.specs.Outcome.{unless}
 use Rattle.protocol.specs.Update.{Record, Empty, Held, Delivered, isEmpty, isDelivered, holds, Update, kept, signed, delivered, announcedBy, updateReasons, joinedSigners, updateResult, update}
-use Rattle.protocol.specs.Algorithm.{State, Effect, broadcast, deliver, Run, save, sign, bundleEffect, onBroadcast, line9, line5, andLine9, onBundle, keepOne, sendOnce, stateOf, effectsOf, SameState, BroadcastFollows, valid, PassesOver, Follows, UnsignedIgnored, UpdateFollows, LeastQuorumIsLine9}
+use Rattle.protocol.specs.Algorithm.{State, Effect, broadcast, deliver, Run, save, sign, bundleEffect, onBroadcast, line9, line5, andLine9, onBundle, keepOne, sendOnce, stateOf, effectsOf, SameState, BroadcastFollows, valid, moreThanHalf, atLeast, PassesOver, Follows, UnsignedIgnored, UpdateFollows, LeastQuorumIsLine9, SameOrWaits, StricterQuorumWaits}
 
 -- ---- words and messages
 
@@ -40,7 +41,20 @@ one-kept saved m x g e = go (same m x) refl
 -- ---- the quorum
 
 pub least-quorum-is-line9 : LeastQuorumIsLine9
-least-quorum-is-line9 n t k = more-than-half (n + t) k
+least-quorum-is-line9 n t = fun-ext (more-than-half (n + t))
+
+pub stricter-quorum-waits : StricterQuorumWaits
+unfolding line9
+stricter-quorum-waits own n t q sender m σ intersects = go (leb q (size (σ .saved m))) refl (ltb (n + t) (size (σ .saved m) + size (σ .saved m))) refl
+  where
+    saved : ℕ
+    saved = size (σ .saved m)
+
+    go : (full : Bool) → leb q saved ≡ full → (more : Bool) → moreThanHalf n t saved ≡ more → SameOrWaits own n t q sender m σ
+    go true f true h = inl (rw (f, h))
+    go true f false h = absurd (omega (arith, leb-true q saved f, ltb-false (n + t) (saved + saved) h))
+    go false f true h = inr (h, leb-false q saved f, rw f)
+    go false f false h = inl (rw (f, h))
 
 -- ---- broadcasting
 
@@ -59,7 +73,7 @@ module _ (own q sender sigs : ℕ) (m : List ℕ) (r : Record) where
   -- If lines 4 to 8 have saved the record's new signers for the message, and have sent a bundle where the record was empty, then receiving follows:
   -- line 9 delivers exactly where receiving does.
   joins-alike : (σ : State) → σ .saved m ≡ joinedSigners own q sigs m r → σ .hasSigned ≡ true → σ .hasDelivered ≡ false
-      → Alike m (updateResult own q sigs m r) (andLine9 own q sender m (record { state = σ; effects = cond (isEmpty r) (bundleEffect m σ ∷ []) [] }))
+      → Alike m (updateResult own q sigs m r) (andLine9 own (atLeast q) sender m (record { state = σ; effects = cond (isEmpty r) (bundleEffect m σ ∷ []) [] }))
   unfolding updateResult andLine9 line9 bundleEffect stateOf keepOne effectsOf sendOnce
   joins-alike σ e made waits = go (leb q (size word)) (isEmpty r) (ap (λ (k : ℕ). leb q (size k)) e)
     where
@@ -73,19 +87,19 @@ module _ (own q sender sigs : ℕ) (m : List ℕ) (r : Record) where
 
       go : (full fresh : Bool) → leb q (size (σ .saved m)) ≡ full
           → Alike m (cond full (record { answer = delivered; newRecord = Delivered word m }) (record { answer = cond fresh signed kept; newRecord = Held word m }))
-          (andLine9 own q sender m (record { state = σ; effects = cond fresh (bundleEffect m σ ∷ []) [] }))
+          (andLine9 own (atLeast q) sender m (record { state = σ; effects = cond fresh (bundleEffect m σ ∷ []) [] }))
       go true true h = rw h (state-alike true true refl, rw (eq-eqb (σ .saved m) (σ .saved m) refl, same-self m, e))
       go true false h = rw h (state-alike true true refl, rw e)
       go false true h = rw h (state-alike false (σ .hasDelivered) (sym waits), rw e)
       go false false h = rw h (state-alike false (σ .hasDelivered) (sym waits), refl)
 
   -- with fewer signatures than the quorum, line 9 does nothing
-  too-few : (σ : State) → σ .saved m ≡ sigs → ltb (size sigs) q ≡ true → line9 own q sender m σ ≡ record { state = σ; effects = [] }
+  too-few : (σ : State) → σ .saved m ≡ sigs → ltb (size sigs) q ≡ true → line9 own (atLeast q) sender m σ ≡ record { state = σ; effects = [] }
   unfolding line9
   too-few σ e f = rw (e, lt-leb q (size sigs) (ltb-true (size sigs) q f))
 
   -- with a quorum, it delivers
-  enough : (σ : State) → σ .saved m ≡ sigs → ltb (size sigs) q ≡ false → line9 own q sender m σ .state .hasDelivered ≡ true
+  enough : (σ : State) → σ .saved m ≡ sigs → ltb (size sigs) q ≡ false → line9 own (atLeast q) sender m σ .state .hasDelivered ≡ true
   unfolding line9
   enough σ e f = rw (e, le-leb q (size sigs) (ltb-false (size sigs) q f))
 
@@ -116,29 +130,30 @@ valid-unsigned own m sigs sender σ e = go (member sigs own && not (member (σ .
     go false = e
 
 -- the algorithm on a bundle whose valid signatures are known
-abbrev onValid : (own q sender : ℕ) (m : List ℕ) (found : ℕ) (σ : State) → Run
-onValid own q sender m found σ =
-    cond (not (σ .hasDelivered) && member found sender) (andLine9 own q sender m (line5 own q sender m (save m found σ))) (record { state = σ; effects = [] })
+abbrev onValid : (own : ℕ) (enough : ℕ → Bool) (sender : ℕ) (m : List ℕ) (found : ℕ) (σ : State) → Run
+onValid own enough sender m found σ =
+    cond (not (σ .hasDelivered) && member found sender) (andLine9 own enough sender m (line5 own enough sender m (save m found σ))) (record { state = σ; effects = [] })
 
-on-valid : (own q sender : ℕ) (m : List ℕ) (sigs found : ℕ) (σ : State) → valid own m sigs σ ≡ found → onBundle own q sender m sigs σ ≡ onValid own q sender m found σ
+on-valid : (own : ℕ) (enough : ℕ → Bool) (sender : ℕ) (m : List ℕ) (sigs found : ℕ) (σ : State) → valid own m sigs σ ≡ found
+    → onBundle own enough sender m sigs σ ≡ onValid own enough sender m found σ
 unfolding onBundle
-on-valid own q sender m sigs found σ e = rw e
+on-valid own enough sender m sigs found σ e = rw e
 
 -- without its sender's signature a bundle does not pass line 3
 pub unsigned-ignored : UnsignedIgnored
-unsigned-ignored own q sender sigs m σ e =
-    rw (on-valid own q sender m sigs (valid own m sigs σ) σ refl, valid-unsigned own m sigs sender σ e, and-false (not (σ .hasDelivered)))
+unsigned-ignored own enough sender sigs m σ e =
+    rw (on-valid own enough sender m sigs (valid own m sigs σ) σ refl, valid-unsigned own m sigs sender σ e, and-false (not (σ .hasDelivered)))
     (record { alike = λ x. refl; signed-alike = refl; delivered-alike = refl }, refl)
 
 -- ---- 23: a signature of p_i that p_i never made
 
 -- what line 9 comes to, by what is saved for the message
 line9-comes : (own q sender : ℕ) (m : List ℕ) (σ : State) (before : List Effect) (g : ℕ) → σ .saved m ≡ g → σ .hasSigned ≡ true → σ .hasDelivered ≡ false
-    → (andLine9 own q sender m (record { state = σ; effects = before }) .state .saved m ≡ g)
-    × ((x : List ℕ) → andLine9 own q sender m (record { state = σ; effects = before }) .state .saved x ≡ σ .saved x)
-    × (andLine9 own q sender m (record { state = σ; effects = before }) .state .hasSigned ≡ true)
-    × (andLine9 own q sender m (record { state = σ; effects = before }) .state .hasDelivered ≡ leb q (size g))
-    × (andLine9 own q sender m (record { state = σ; effects = before }) .effects ≡ before ++ cond (leb q (size g)) (broadcast g m ∷ deliver m ∷ []) [])
+    → (andLine9 own (atLeast q) sender m (record { state = σ; effects = before }) .state .saved m ≡ g)
+    × ((x : List ℕ) → andLine9 own (atLeast q) sender m (record { state = σ; effects = before }) .state .saved x ≡ σ .saved x)
+    × (andLine9 own (atLeast q) sender m (record { state = σ; effects = before }) .state .hasSigned ≡ true)
+    × (andLine9 own (atLeast q) sender m (record { state = σ; effects = before }) .state .hasDelivered ≡ leb q (size g))
+    × (andLine9 own (atLeast q) sender m (record { state = σ; effects = before }) .effects ≡ before ++ cond (leb q (size g)) (broadcast g m ∷ deliver m ∷ []) [])
 unfolding andLine9 line9 bundleEffect
 line9-comes own q sender m σ before g e made waits = rw e (go (leb q (size g)))
   where
@@ -160,22 +175,22 @@ line9-comes own q sender m σ before g e made waits = rw e (go (leb q (size g)))
 module _ (own q sender sigs : ℕ) (m : List ℕ) (present : member sigs sender ≡ true) (ours : member sigs own ≡ true) where
   -- lines 4 to 12 with the others' signatures
   goes-on : (r : Record) → isDelivered r ≡ false → holds r m ≡ false → eqb sender own ≡ false
-      → onBundle own q sender m sigs (stateOf r) ≡ andLine9 own q sender m (line5 own q sender m (save m (without sigs own) (stateOf r)))
+      → onBundle own (atLeast q) sender m sigs (stateOf r) ≡ andLine9 own (atLeast q) sender m (line5 own (atLeast q) sender m (save m (without sigs own) (stateOf r)))
   unfolding stateOf
   goes-on r waits apart other =
-      on-valid own q sender m sigs (without sigs own) (stateOf r) (valid-others own m sigs (stateOf r) ours (rw apart (nobody own)))
+      on-valid own (atLeast q) sender m sigs (without sigs own) (stateOf r) (valid-others own m sigs (stateOf r) ours (rw apart (nobody own)))
       ∙ rw (waits, member-without sigs own sender, present, other)
 
   -- or nothing, in the node's own slot
   stops : (r : Record) → isDelivered r ≡ false → holds r m ≡ false → eqb sender own ≡ true
-      → onBundle own q sender m sigs (stateOf r) ≡ record { state = stateOf r; effects = [] }
+      → onBundle own (atLeast q) sender m sigs (stateOf r) ≡ record { state = stateOf r; effects = [] }
   unfolding stateOf
   stops r waits apart same =
-      on-valid own q sender m sigs (without sigs own) (stateOf r) (valid-others own m sigs (stateOf r) ours (rw apart (nobody own)))
+      on-valid own (atLeast q) sender m sigs (without sigs own) (stateOf r) (valid-others own m sigs (stateOf r) ours (rw apart (nobody own)))
       ∙ rw (waits, member-without sigs own sender, present, same)
 
   -- lines 4 to 12 by the state of the record
-  lines : (r : Record) → isDelivered r ≡ false → holds r m ≡ false → eqb sender own ≡ false → PassesOver own q sender sigs m r
+  lines : (r : Record) → isDelivered r ≡ false → holds r m ≡ false → eqb sender own ≡ false → PassesOver own (atLeast q) sender sigs m r
   unfolding line5 sign save stateOf bundleEffect
   lines Empty waits apart other =
       let σ = sign own m (save m (without sigs own) (stateOf Empty)) in
@@ -189,10 +204,10 @@ module _ (own q sender sigs : ℕ) (m : List ℕ) (present : member sigs sender 
       rw (goes-on (Held s p) refl apart other) (inr (eqb-false sender own other, saved, λ x h. others x ∙ rw h, made, full, effects))
   lines (Delivered s p) waits apart other = absurd (true≢false waits)
 
-  passes-over : (r : Record) → isDelivered r ≡ false → holds r m ≡ false → PassesOver own q sender sigs m r
+  passes-over : (r : Record) → isDelivered r ≡ false → holds r m ≡ false → PassesOver own (atLeast q) sender sigs m r
   passes-over r waits apart = go (eqb sender own) refl
     where
-      go : (b : Bool) → eqb sender own ≡ b → PassesOver own q sender sigs m r
+      go : (b : Bool) → eqb sender own ≡ b → PassesOver own (atLeast q) sender sigs m r
       go true same =
           rw (stops r waits apart same) (inl (eqb-true sender own same, record { alike = λ x. refl; signed-alike = refl; delivered-alike = refl }, refl))
       go false other = lines r waits apart other
@@ -202,7 +217,7 @@ pub update-follows : UpdateFollows
 unfolding update updateReasons unless joinedSigners onBundle line5 andLine9 save sign stateOf keepOne bundleEffect
 update-follows own q sender sigs m Empty present has = go (member sigs own) refl
   where
-    go : (ours : Bool) → member sigs own ≡ ours → Follows own q sender sigs m Empty (update own q sigs m Empty)
+    go : (ours : Bool) → member sigs own ≡ ours → Follows own (atLeast q) sender sigs m Empty (update own q sigs m Empty)
     go true e = rw e (inr (inl (refl, refl, e, nobody own, passes-over own q sender sigs m present e Empty refl refl)))
     go false e =
         let saved = sign own m (save m sigs (stateOf Empty)) in
@@ -219,7 +234,7 @@ update-follows own q sender sigs m (Held s p) present has = go (same p m) refl (
     dropped h x false k = rw k
 
     go : (held : Bool) → same p m ≡ held → (ours : Bool) → member sigs own ≡ ours → (few : Bool) → ltb (size sigs) q ≡ few
-        → Follows own q sender sigs m (Held s p) (update own q sigs m (Held s p))
+        → Follows own (atLeast q) sender sigs m (Held s p) (update own q sigs m (Held s p))
     go true h ours e few f =
         rw (h, and-false (member sigs own), valid-saved own m sigs (stateOf (Held s p)) (rw h has), present)
         (refl, rw h, joins-alike own q sender sigs m (Held s p) saved (rw (same-self m, h)) refl refl)

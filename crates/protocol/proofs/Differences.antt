@@ -18,7 +18,7 @@ use Rattle.protocol.specs.Trace as trace
 use Rattle.protocol.specs.Trace.{Trace, start, _then_calls_}
 use Rattle.protocol.specs.OneSlot.{Act, outcome, recordAfter, signs, deliversThis, currentRecord, ever}
 use Rattle.protocol.specs.Differences.{bringsQuorum, deliversAtOnce, OtherNeedsQuorum, OneBundleForBoth, OnePayloadHeld, OtherAtOnce}
-use Rattle.protocol.specs.Algorithm.{broadcast, deliver, save, sign, bundleEffect, line9, line5, andLine9, onBundle, stateOf, effectsOf}
+use Rattle.protocol.specs.Algorithm.{broadcast, deliver, atLeast, save, sign, bundleEffect, line9, line5, andLine9, onBundle, stateOf, effectsOf}
 use Rattle.protocol.proofs.Algorithm.{one-joined, valid-absent}
 use Rattle.protocol.proofs.WellFormed.{update-done}
 use Rattle.protocol.proofs.TraceInduction.{resultSigns, resultDelivers}
@@ -56,7 +56,7 @@ one-bundle-for-both own q sender signers payload result present e d =
         → cond full (record { answer = delivered; newRecord = Delivered (insert signers own) payload }) (record { answer = signed; newRecord = Held (insert signers own) payload }) ≡ result
         → (result ≡ record { answer = delivered; newRecord = Delivered (insert signers own) payload })
         × (effectsOf result ≡ broadcast (insert signers own) payload ∷ deliver payload ∷ [])
-        × (onBundle own q sender payload signers (stateOf Empty) .effects
+        × (onBundle own (atLeast q) sender payload signers (stateOf Empty) .effects
         ≡ broadcast (insert signers own) payload ∷ broadcast (insert signers own) payload ∷ deliver payload ∷ [])
     go true f is = (sym is, rw (← is), rw (valid-absent own payload signers (stateOf Empty) absent, present, saved, f))
     go false f is = absurd (true≢false (sym d ∙ rw (← is)))

@@ -18,7 +18,7 @@ use Rattle.protocol.specs.Update.{announcedBy, updateReasons, joinedSign
 use Rattle.protocol.specs.Trace as trace
 use Rattle.protocol.specs.Trace.{Trace, start, _then_calls_, each, state}
 use Rattle.protocol.specs.OneSlot.{Act, Broadcast, Receive, outcome, recordAfter, sends, signs, delivers, deliversThis, broadcasts, broadcastsThis, receives, ever}
-use Rattle.protocol.specs.Tight.{only, notRefused, QuorumTight, ReachableTight, BoundsAskResilience, ReachTight, FaultyTight, ForgedTight, SendsTight}
+use Rattle.protocol.specs.Tight.{only, notRefused, QuorumTight, LeastTight, MostTight, BoundsAskResilience, ReachTight, FaultyTight, ForgedTight, SendsTight}
 use Rattle.protocol.proofs.ComputedTests.{each-says, allowed-test, lawful-test, lawful-says, nearly-test, sent-test, reached-from, reached-test, reached-says}
 
 -- two payloads
@@ -88,36 +88,92 @@ reach-tight = (
   λ delivery. let none : 3 ≤ 0 = delivery 0 first refl (inl (refl, refl)) in absurd (omega arith),
 )
 
--- 0 broadcasts, and its bundle reaches all three. 1 and 2 sign it, each with 0 alone, and both bundles reach all three. Signers as words: 1 is 0 alone, 3 is 0 and
--- 1, 5 is 0 and 2.
+-- The faulty sender's signature on one payload reaches 0, whose bundle reaches 1, whose bundle reaches 2, which delivers with four signers. The same happens with
+-- the other payload at 3, 4 and 5. Signers as words: 128 is 7 alone, 129 is 0 and 7, 131 is 0, 1 and 7, 136 is 3 and 7, 152 is 3, 4 and 7.
+split-eight : Trace Act
+split-eight =
+    start
+    then 0 calls Receive 128 first
+    then 1 calls Receive 129 first
+    then 2 calls Receive 131 first
+    then 3 calls Receive 128 second
+    then 4 calls Receive 136 second
+    then 5 calls Receive 152 second
+
+pub least-tight : LeastTight
+unfolding split-eight lawful-test allowed-test each trace.ever state count outcome recordAfter update updateReasons unless joinedSigners updateResult
+    member insert within ones signs deliversThis same
+least-tight = (
+  split-eight,
+  first,
+  second,
+  lit≤ tt,
+  refl,
+  lit≤ tt,
+  lit≤ tt,
+  lawful-says 8 4 7 (only 7) split-eight refl,
+  refl,
+  refl,
+  λ agreement. true≢false (ap (same first) (agreement 2 5 first second refl refl refl refl)),
+)
+
+-- 0 broadcasts, and each of 1 to 5 signs the bundle of the one before it. Then each of the six bundles reaches all of 0 to 5, and 6 receives nothing. Signers as
+-- words: 1 is 0 alone, 3 is 0 and 1, 7 is 0 to 2, 15 is 0 to 3, 31 is 0 to 4, 63 is 0 to 5.
 unreachable : Trace Act
 unreachable =
     start
     then 0 calls Broadcast first
-    then 0 calls Receive 1 first
     then 1 calls Receive 1 first
+    then 2 calls Receive 3 first
+    then 3 calls Receive 7 first
+    then 4 calls Receive 15 first
+    then 5 calls Receive 31 first
+    then 0 calls Receive 1 first
     then 2 calls Receive 1 first
+    then 3 calls Receive 1 first
+    then 4 calls Receive 1 first
+    then 5 calls Receive 1 first
     then 0 calls Receive 3 first
     then 1 calls Receive 3 first
-    then 2 calls Receive 3 first
-    then 0 calls Receive 5 first
-    then 1 calls Receive 5 first
-    then 2 calls Receive 5 first
+    then 3 calls Receive 3 first
+    then 4 calls Receive 3 first
+    then 5 calls Receive 3 first
+    then 0 calls Receive 7 first
+    then 1 calls Receive 7 first
+    then 2 calls Receive 7 first
+    then 4 calls Receive 7 first
+    then 5 calls Receive 7 first
+    then 0 calls Receive 15 first
+    then 1 calls Receive 15 first
+    then 2 calls Receive 15 first
+    then 3 calls Receive 15 first
+    then 5 calls Receive 15 first
+    then 0 calls Receive 31 first
+    then 1 calls Receive 31 first
+    then 2 calls Receive 31 first
+    then 3 calls Receive 31 first
+    then 4 calls Receive 31 first
+    then 0 calls Receive 63 first
+    then 1 calls Receive 63 first
+    then 2 calls Receive 63 first
+    then 3 calls Receive 63 first
+    then 4 calls Receive 63 first
+    then 5 calls Receive 63 first
 
--- nobody has more than three of the four signers needed
-pub reachable-tight : ReachableTight
+-- nobody has more than six of the seven signers needed
+pub most-tight : MostTight
 unfolding unreachable lawful-test allowed-test nearly-test sent-test reached-from reached-test each trace.ever state count outcome recordAfter announcedBy update updateReasons
     unless joinedSigners updateResult member insert within ones signs delivers deliversThis broadcasts broadcastsThis receives same
-reachable-tight = (
+most-tight = (
   unreachable,
   lit≤ tt,
   lit< tt,
   refl,
   lit≤ tt,
-  lawful-says 4 4 0 (only 3) unreachable refl,
-  reached-says 4 4 0 (only 3) 0 unreachable refl,
-  λ u is-correct. not-true _ (each-says (λ v. not (ever 4 (delivers 4) unreachable v)) 4 u refl (ltb-true u 4 (and-eq-true-iff _ _ .0 is-correct .0))),
-  λ delivery. let none : 3 ≤ 0 = delivery 0 first refl (inl (refl, refl)) in absurd (omega arith),
+  lawful-says 8 7 0 (only 7) unreachable refl,
+  reached-says 8 7 0 (only 7) 1 unreachable refl,
+  λ u is-correct. not-true _ (each-says (λ v. not (ever 7 (delivers 7) unreachable v)) 8 u refl (ltb-true u 8 (and-eq-true-iff _ _ .0 is-correct .0))),
+  λ delivery. let none : 7 ≤ 1 = delivery 0 first refl (inl (refl, refl)) in absurd (omega arith),
 )
 
 -- 12 is 2 and 3

@@ -1,12 +1,12 @@
 -- R13.1: Algorithm 1 of the article, "Asynchronous Byzantine reliable broadcast with a message adversary", under the article's line numbers, for one slot
--- (sn, j) at process p_i; then where we differ (R13.2 to R13.4), each difference a function; then what is claimed of them (R13.6, R13.7). `own` is i, `sender`
--- is j, `m` the app-message, and `q` the number of signatures that line 9 asks for. It is proved in proofs/Algorithm.antt.
+-- (sn, j) at process p_i; then where we differ (R13.2 to R13.4, R13.8), each difference a function; then what is claimed of them (R13.6, R13.7). `own` is i,
+-- `sender` is j, `m` the app-message, and `enough` line 9's test of how many signatures are saved. It is proved in proofs/Algorithm.antt.
 -- Assumes nothing.
 use mathlib.Core.Path.{_≡_}
 use mathlib.Core.Logic.{_⊎_}
 use mathlib.Core.Bool.{Bool, true, false, cond, not, _&&_}
 use mathlib.Core.List.{List, [], _∷_, _++_}
-use Prim.Native.Nat.{ℕ, _+_, _/_}
+use Prim.Native.Nat.{ℕ, _+_, _/_, _<_}
 use lib.Dec.{leb, ltb, eqb}
 use Rattle.octets.specs.Octets.{same}
 use Rattle.signers.specs.Signers.{member, insert, without, union, size}
@@ -52,20 +52,20 @@ bundleEffect m σ = broadcast (σ .saved m) m
 unfoldable pub onBroadcast : (own : ℕ) (m : List ℕ) (σ : State) → Run
 onBroadcast own m σ = record { state = sign own m σ; effects = bundleEffect m (sign own m σ) ∷ [] }
 
--- R13.7: line 9 asks for strictly more than (n + t)/2 signatures. In whole numbers that is at least (n + t)/2, rounded down, plus 1.
-abbrev pub LeastQuorumIsLine9 : Type 0
-LeastQuorumIsLine9 = (n t k : ℕ) → leb ((n + t) / 2 + 1) k ≡ ltb (n + t) (k + k)
+-- line 9's test in the article: strictly more than (n + t)/2 signatures
+abbrev pub moreThanHalf : (n t : ℕ) → (signatures : ℕ) → Bool
+moreThanHalf n t signatures = ltb (n + t) (signatures + signatures)
 
 -- The signatures of `sigs` that are valid for p_i. A set bit of another process is a signature that the key chip found valid (R1.2); the one of p_i itself
 -- counts only if p_i has saved it for m.
 unfoldable pub valid : (own : ℕ) (m : List ℕ) (sigs : ℕ) (σ : State) → ℕ
 valid own m sigs σ = cond (member sigs own && not (member (σ .saved m) own)) (without sigs own) sigs
 
-module _ (own q sender : ℕ) (m : List ℕ) where
-  -- lines 9 to 12, with the quorum q: where that many signatures are saved for m, p_i broadcasts the BUNDLE of m and delivers m
+module _ (own : ℕ) (enough : ℕ → Bool) (sender : ℕ) (m : List ℕ) where
+  -- lines 9 to 12: where enough signatures are saved for m, p_i broadcasts the BUNDLE of m and delivers m
   unfoldable pub line9 : (σ : State) → Run
   line9 σ =
-      cond (leb q (size (σ .saved m)))
+      cond (enough (size (σ .saved m)))
       (record {
         state = record { saved = σ .saved; hasSigned = σ .hasSigned; hasDelivered = true };
         effects = bundleEffect m σ ∷ deliver m ∷ [];
@@ -102,6 +102,26 @@ sendOnce (broadcast sigs m ∷ deliver x ∷ rest) = broadcast sigs m ∷ delive
 sendOnce (broadcast sigs m ∷ broadcast others x ∷ rest) =
     cond (eqb sigs others && same m x) (sendOnce (broadcast others x ∷ rest)) (broadcast sigs m ∷ sendOnce (broadcast others x ∷ rest))
 
+-- R13.8: line 9 asks for the quorum q that the site chose.
+abbrev pub atLeast : (q : ℕ) → (signatures : ℕ) → Bool
+atLeast q = leb q
+
+-- R13.7: with the least quorum that is the article's line 9, test for test, and so the article's algorithm.
+abbrev pub LeastQuorumIsLine9 : Type 0
+LeastQuorumIsLine9 = (n t : ℕ) → atLeast ((n + t) / 2 + 1) ≡ moreThanHalf n t
+
+-- R13.8: line 9 with q is the article's, or it waits: more than (n + t)/2 signatures are saved for m, with which the article's p_i would broadcast the BUNDLE
+-- and deliver m, but fewer than q. No other line asks how many are saved.
+abbrev pub SameOrWaits : (own n t q sender : ℕ) (m : List ℕ) (σ : State) → Type 0
+SameOrWaits own n t q sender m σ =
+    (line9 own (atLeast q) sender m σ ≡ line9 own (moreThanHalf n t) sender m σ)
+    ⊎ ((moreThanHalf n t (size (σ .saved m)) ≡ true)
+    × (size (σ .saved m) < q)
+    × (line9 own (atLeast q) sender m σ ≡ record { state = σ; effects = [] }))
+
+abbrev pub StricterQuorumWaits : Type 0
+StricterQuorumWaits = (own n t q sender : ℕ) (m : List ℕ) (σ : State) → n + t < q + q → SameOrWaits own n t q sender m σ
+
 -- ---- a record as the algorithm's state, and an update as its effects
 
 unfoldable pub stateOf : Record → State
@@ -126,16 +146,16 @@ BroadcastFollows =
     × (onBroadcast own m (stateOf Empty) .effects ≡ broadcast (signersOf (announcedBy own m)) m ∷ [])
 
 -- What receiving a bundle comes to, beside what the algorithm does with the bundle on the same state.
-module _ (own q sender : ℕ) (sigs : ℕ) (m : List ℕ) (r : Record) where
+module _ (own : ℕ) (enough : ℕ → Bool) (sender sigs : ℕ) (m : List ℕ) (r : Record) where
   abbrev run : Run
-  run = onBundle own q sender m sigs (stateOf r)
+  run = onBundle own enough sender m sigs (stateOf r)
 
   -- What p_i has saved for m once it has passed over the signature of its own that it has not saved: those of the others, and its own where it signs now.
   abbrev pub savedPassingOver : ℕ
   savedPassingOver = cond (isEmpty r) (insert (without sigs own) own) (without sigs own)
 
   -- And what it does: nothing where that signature is the one of p_j, which is p_i itself then, since line 3 fails; else it signs and broadcasts, if it has
-  -- signed nothing in the slot, and broadcasts and delivers, if it has a quorum then.
+  -- signed nothing in the slot, and broadcasts and delivers, if it has enough then.
   abbrev pub PassesOver : Type 0
   PassesOver =
       ((sender ≡ own) × SameState (run .state) (stateOf r) × (run .effects ≡ []))
@@ -143,10 +163,10 @@ module _ (own q sender : ℕ) (sigs : ℕ) (m : List ℕ) (r : Record) where
       × (run .state .saved m ≡ savedPassingOver)
       × ((x : List ℕ) → same x m ≡ false → run .state .saved x ≡ stateOf r .saved x)
       × (run .state .hasSigned ≡ true)
-      × (run .state .hasDelivered ≡ leb q (size savedPassingOver))
+      × (run .state .hasDelivered ≡ enough (size savedPassingOver))
       × (run .effects
       ≡ cond (isEmpty r) (broadcast savedPassingOver m ∷ []) []
-      ++ cond (leb q (size savedPassingOver)) (broadcast savedPassingOver m ∷ deliver m ∷ []) []))
+      ++ cond (enough (size savedPassingOver)) (broadcast savedPassingOver m ∷ deliver m ∷ []) []))
 
   -- R13.1. Done: the slot was not delivered, and if the record held another message, the algorithm delivers this one now. Of its state what is saved for
   -- this message stays (R13.2): it is the message held before, or the first, or the one delivered now. What is sent is what the algorithm sends, without
@@ -154,7 +174,7 @@ module _ (own q sender : ℕ) (sigs : ℕ) (m : List ℕ) (r : Record) where
   -- 22: line 3 fails, and the algorithm does nothing either.
   -- 23: nothing is delivered, and the bundle has a signature of p_i for m that p_i has not saved. The algorithm passes over that one, since it is not
   -- valid, and goes on with the others; we refuse the bundle. Where no signature is forged there is no such bundle (system's `NeverOwnUnknown`).
-  -- 24: the algorithm saves the signatures for another message (line 4) and does nothing else; we drop them.
+  -- 24: there are not enough for line 9. The algorithm saves the signatures for another message (line 4) and does nothing else; we drop them.
   abbrev pub Follows : Outcome Update → Type 0
   Follows (done result) =
       (isDelivered r ≡ false)
@@ -168,8 +188,8 @@ module _ (own q sender : ℕ) (sigs : ℕ) (m : List ℕ) (r : Record) where
 -- R13.6, of 8: where the sender's signature is missing line 3 fails, and the algorithm does nothing.
 abbrev pub UnsignedIgnored : Type 0
 UnsignedIgnored =
-    (own q sender sigs : ℕ) (m : List ℕ) (σ : State) → member sigs sender ≡ false
-    → SameState (onBundle own q sender m sigs σ .state) σ × (onBundle own q sender m sigs σ .effects ≡ [])
+    (own : ℕ) (enough : ℕ → Bool) (sender sigs : ℕ) (m : List ℕ) (σ : State) → member sigs sender ≡ false
+    → SameState (onBundle own enough sender m sigs σ .state) σ × (onBundle own enough sender m sigs σ .effects ≡ [])
 
 -- a held record has the node's own signature
 abbrev pub HasOwn : (own : ℕ) → Record → Type 0
@@ -177,7 +197,9 @@ HasOwn own Empty = Unit
 HasOwn own (Held signers payload) = member signers own ≡ true
 HasOwn own (Delivered signers payload) = Unit
 
--- R13.1: receiving follows the algorithm with the same quorum, for a bundle that has its sender's signature and a record that has the node's own if it is held.
+-- R13.1: receiving follows the algorithm whose line 9 asks for the same quorum, for a bundle that has its sender's signature and a record that has the node's own
+-- if it is held.
 abbrev pub UpdateFollows : Type 0
 UpdateFollows =
-    (own q sender sigs : ℕ) (m : List ℕ) (r : Record) → member sigs sender ≡ true → HasOwn own r → Follows own q sender sigs m r (update own q sigs m r)
+    (own q sender sigs : ℕ) (m : List ℕ) (r : Record) → member sigs sender ≡ true → HasOwn own r
+    → Follows own (atLeast q) sender sigs m r (update own q sigs m r)

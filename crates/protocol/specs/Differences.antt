@@ -10,7 +10,7 @@ use Rattle.signers.specs.Signers.{member, insert, size}
 use Rattle.refusal.specs.Outcome.{done}
 use Rattle.protocol.specs.Update.{Record, Empty, Held, Delivered, holdsOther, Update, delivered, delivers, update}
 use Rattle.protocol.specs.Trace.{Trace}
-use Rattle.protocol.specs.Algorithm.{broadcast, deliver, onBundle, stateOf, effectsOf}
+use Rattle.protocol.specs.Algorithm.{broadcast, deliver, atLeast, onBundle, stateOf, effectsOf}
 use Rattle.protocol.specs.OneSlot.{Act, Broadcast, Receive, signs, deliversThis, currentRecord, ever}
 
 -- ---- one update
@@ -30,7 +30,7 @@ OneBundleForBoth =
     → update own q signers payload Empty ≡ done result → delivers (result .answer) ≡ true
     → (result ≡ record { answer = delivered; newRecord = Delivered (insert signers own) payload })
     × (effectsOf result ≡ broadcast (insert signers own) payload ∷ deliver payload ∷ [])
-    × (onBundle own q sender payload signers (stateOf Empty) .effects
+    × (onBundle own (atLeast q) sender payload signers (stateOf Empty) .effects
     ≡ broadcast (insert signers own) payload ∷ broadcast (insert signers own) payload ∷ deliver payload ∷ [])
 
 -- ---- a trace

@@ -5,7 +5,7 @@
 use mathlib.Core.Path.{_≡_}
 use mathlib.Core.Bool.{Bool, true, false}
 use mathlib.Core.List.{List}
-use Prim.Native.Nat.{ℕ, _+_, _*_, _≤_, _<_}
+use Prim.Native.Nat.{ℕ, _+_, _*_, _/_, _≤_, _<_}
 use lib.Dec.{eqb, leb}
 use Rattle.signers.specs.Sets.{NodeSet, count}
 use Rattle.signers.specs.Signers.{member, within}
@@ -38,19 +38,35 @@ QuorumTight =
     × (ever 3 (deliversThis 3 second) list 3 ≡ true)
     × (Agreement 5 3 4 (only 4) 0 list → ⊥)
 
--- A quorum of n - t - d + 1 is out of reach. With 4, 1, 0 that is 4: node 3 is faulty and silent, every bundle that a correct node sends is received by all
--- three correct nodes, and none delivers. Of the bounds of `Quorum` the other two hold.
-abbrev pub ReachableTight : Type 0
-ReachableTight =
+-- R2.9: with 8, 1, 1 a site may choose 5 or 6 (R2.11), and either end is exact. One below the least is 4, with which two quorums need share no correct node:
+-- the sender, node 7, is faulty, and nodes 2 and 5 deliver different payloads. Of the bounds of `Quorum` the other two hold.
+abbrev pub LeastTight : Type 0
+LeastTight =
     (list : Trace Act)
-    × (4 ≤ 64)
-    × (4 + 1 < 4 + 4)
-    × (4 + 1 + 0 ≡ 4 + 1)
-    × (count (only 3) 4 ≤ 1)
-    × Lawful 4 4 0 (only 3) list
-    × Reached 4 4 0 (only 3) 0 list
-    × ((u : ℕ) → correct 4 (only 3) u ≡ true → ever 4 (delivers 4) list u ≡ false)
-    × (Delivery 4 4 0 (only 3) 0 list → ⊥)
+    × (first : List ℕ)
+    × (second : List ℕ)
+    × (8 ≤ 64)
+    × ((8 + 1) / 2 + 1 ≡ 4 + 1)
+    × (4 + 1 + 1 ≤ 8)
+    × (count (only 7) 8 ≤ 1)
+    × Lawful 8 4 7 (only 7) list
+    × (ever 4 (deliversThis 4 first) list 2 ≡ true)
+    × (ever 4 (deliversThis 4 second) list 5 ≡ true)
+    × (Agreement 8 4 7 (only 7) 0 list → ⊥)
+
+-- One above the most, n - t - d + 1, is 7 and out of reach: node 7 is faulty and silent, every bundle that a correct node sends is received by six of the seven
+-- correct nodes, which is c - d, and none delivers. Of the bounds of `Quorum` the other two hold.
+abbrev pub MostTight : Type 0
+MostTight =
+    (list : Trace Act)
+    × (8 ≤ 64)
+    × (8 + 1 < 7 + 7)
+    × (7 + 1 + 1 ≡ 8 + 1)
+    × (count (only 7) 8 ≤ 1)
+    × Lawful 8 7 0 (only 7) list
+    × Reached 8 7 0 (only 7) 1 list
+    × ((u : ℕ) → correct 8 (only 7) u ≡ true → ever 7 (delivers 7) list u ≡ false)
+    × (Delivery 8 7 0 (only 7) 1 list → ⊥)
 
 -- The two bounds leave room for a quorum only where n is more than 3t + 2d, which is why a good configuration asks it (R2.2, R2.8).
 abbrev pub BoundsAskResilience : Type 0

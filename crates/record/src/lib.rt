@@ -214,11 +214,11 @@ fn sign(config: Config, signers: u64, payload: Payload) -> Received
 fn join(config: Config, known: u64, signers: u64, payload: Payload) -> Received
     ensures { λ r. ⌜ receivedOf r ≡ encodedUpdate (updateOf (config .own) (quorum config) signers (payloadBytes payload) (Held known (payloadBytes payload))) ⌝ }
 {
-    let signers = signers::union(known, signers);
-    if config.quorum() <= signers::size(signers) {
-        return Received::Delivered(Record::delivered(signers, payload));
+    let joined = signers::union(known, signers);
+    if config.quorum() <= signers::size(joined) {
+        return Received::Delivered(Record::delivered(joined, payload));
     }
-    Received::Kept(Record::held(signers, payload))
+    Received::Kept(Record::held(joined, payload))
 }
 
 // R8.4: a bundle with another payload than the one held. Only a full quorum replaces it.

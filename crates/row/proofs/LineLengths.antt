@@ -19,7 +19,7 @@ use Rattle.row.proofs.TableFields.{table-fields}
 use Rattle.row.proofs.RowFields.{node-field, broadcast-fields, receive-fields}
 
 -- the names lines
-pub names-length : (length tableNames ≡ 23) × (length stepNames ≡ 35)
+pub names-length : (length tableNames ≡ 30) × (length stepNames ≡ 35)
 unfolding tableNames stepNames ascii
 names-length = (refl, refl)
 
@@ -67,6 +67,9 @@ line-plain limit k xs pos h e =
 line-byte : (xs : List ℕ) → plainUpTo 255 xs ≡ true → Line 3 xs
 line-byte xs e = line-plain 255 3 xs (lit< tt) (lit< tt) e
 
+line-word : (xs : List ℕ) → plainUpTo (2 ^ 32 - 1) xs ≡ true → Line 10 xs
+line-word xs e = line-plain (2 ^ 32 - 1) 10 xs (lit< tt) (lit< tt) e
+
 -- and hexadecimal digits are such texts
 line-hex : (k : ℕ) (xs : List ℕ) → hex k xs ≡ true → Line k xs
 line-hex k xs e = record { feedless = hex-none lineFeed k xs (lit< tt) e; short = omega (arith, hex-length k xs e) }
@@ -74,15 +77,16 @@ line-hex k xs e = record { feedless = hex-none lineFeed k xs (lit< tt) e; short 
 -- ---- the table row
 
 module _ (line : List ℕ) (e : isTable line ≡ true) where
-  -- it has at most 22 bytes
-  table-line : Line 22 line
+  -- it has at most 33 bytes
+  table-line : Line 33 line
   unfolding afterFields
   table-line =
       let f = table-fields line e in
-      line-join 3 18 line (line-byte _ (f .nodes))
-      (line-join 3 14 (afterFields 1 line) (line-byte _ (f .faults))
-      (line-join 3 10 (afterFields 2 line) (line-byte _ (f .losses))
-      (line-plain (2 ^ 32 - 1) 10 (afterFields 3 line) (lit< tt) (lit< tt) (ap (plainUpTo (2 ^ 32 - 1)) (sym (f .last)) ∙ f .day))))
+      line-join 3 29 line (line-byte _ (f .nodes))
+      (line-join 3 25 (afterFields 1 line) (line-byte _ (f .faults))
+      (line-join 3 21 (afterFields 2 line) (line-byte _ (f .losses))
+      (line-join 10 10 (afterFields 3 line) (line-word _ (f .day))
+      (line-word (afterFields 4 line) (ap (plainUpTo (2 ^ 32 - 1)) (sym (f .last)) ∙ f .quorum)))))
 
   pub table-short : length line ≤ 120
   table-short = omega (arith, table-line .short)

@@ -1,14 +1,15 @@
 -- The lines of a run file: R15.5 to R15.10 of docs/RULES.md. A unit is a node here, the number of a slot is `seq` and a body is a payload.
 -- Assumes nothing.
-use mathlib.Core.Bool.{Bool, cond, _&&_}
-use mathlib.Core.List.{List}
+use mathlib.Core.Path.{_≡_}
+use mathlib.Core.Bool.{Bool, false, cond, _&&_}
+use mathlib.Core.List.{List, []}
 use Prim.Native.Nat.{ℕ, _-_, _^_}
 use lib.Dec.{leb, ltb}
 use lib.ListN.{length, take, drop}
 use Rattle.octets.specs.Octets.{same}
 use Rattle.payload.specs.declared.Payload.{Payload}
 use Rattle.config.specs.declared.Config.{Config}
-use Rattle.config.specs.Config.{good}
+use Rattle.config.specs.Config.{configOf, good}
 use Rattle.text.specs.Text.{ascii, field, afterFields, value, plainUpTo, hex}
 use Rattle.row.specs.declared.Step.the-variants.{Broadcast, Receive}
 use Rattle.row.specs.declared.StepRow.{StepRow}
@@ -18,7 +19,7 @@ use Rattle.row.specs.declared.ConfigRow.the-variants.{Good, Bad}
 
 -- R15.5: the two lines of names
 unfoldable pub tableNames : List ℕ
-tableNames = ascii "units faults losses day"
+tableNames = ascii "units faults losses day quorum"
 
 unfoldable pub stepNames : List ℕ
 stepNames = ascii "act unit sender number signers body"
@@ -28,25 +29,31 @@ stepNames = ascii "act unit sender number signers body"
 -- the configuration that the numbers of a table row give, at node 0: who plays it puts in each node's own number. The last number is all of the
 -- line after the fields before it, so that a further field makes it no number.
 unfoldable pub configIn : (line : List ℕ) → Config
-configIn line = record {
-  n = value 10 0 (field 0 line);
-  t = value 10 0 (field 1 line);
-  d = value 10 0 (field 2 line);
-  own = 0;
-  day = value 10 0 (afterFields 3 line);
-}
+configIn line =
+    configOf
+    (value 10 0 (field 0 line))
+    (value 10 0 (field 1 line))
+    (value 10 0 (field 2 line))
+    0
+    (value 10 0 (field 3 line))
+    (value 10 0 (afterFields 4 line))
 
--- R15.6, but for the bound of 8 nodes: four plain numbers that fit their fields and make a good configuration
+-- R15.6, but for the bound of 8 nodes: five plain numbers that fit their fields and make a good configuration
 unfoldable pub isTable : (line : List ℕ) → Bool
 isTable line =
     plainUpTo 255 (field 0 line)
     && (plainUpTo 255 (field 1 line)
     && (plainUpTo 255 (field 2 line)
-    && (plainUpTo (2 ^ 32 - 1) (afterFields 3 line)
-    && good (configIn line))))
+    && (plainUpTo (2 ^ 32 - 1) (field 3 line)
+    && (plainUpTo (2 ^ 32 - 1) (afterFields 4 line)
+    && good (configIn line)))))
 
 unfoldable pub tableIn : (line : List ℕ) → ConfigRow
 tableIn line = cond (isTable line) (Good (configIn line)) Bad
+
+-- R15.7: names without the fifth are not those of a table, and a row with fewer than five fields is none
+abbrev pub FiveAreAsked : Type 0
+FiveAreAsked = (same (ascii "units faults losses day") tableNames ≡ false) × ((line : List ℕ) → afterFields 4 line ≡ [] → isTable line ≡ false)
 
 -- ---- a step row
 

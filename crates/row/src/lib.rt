@@ -49,7 +49,7 @@ enum HexPayload {
 pub fn is_table_names(line: &[u8]) -> bool
     ensures { λ r. ⌜ r ≡ same (now (line .entry)) tableNames ⌝ }
 {
-    text::same(line, b"units faults losses day")
+    text::same(line, b"units faults losses day quorum")
 }
 
 // Whether the line has the names of the steps, to the byte (R15.5).
@@ -72,19 +72,16 @@ pub fn read_table(line: &[u8]) -> ConfigRow
     let Number::Plain(d, day_at) = text::number_at(255, line, losses_at) else {
         return ConfigRow::Bad;
     };
-    let Number::Plain(day, end) = text::number_at(0xffff_ffff, line, day_at) else {
+    let Number::Plain(day, quorum_at) = text::number_at(0xffff_ffff, line, day_at) else {
+        return ConfigRow::Bad;
+    };
+    let Number::Plain(quorum, end) = text::number_at(0xffff_ffff, line, quorum_at) else {
         return ConfigRow::Bad;
     };
     if end != line.len() + 1 {
         return ConfigRow::Bad;
     }
-    let config = Config {
-        n: n as u8,
-        t: t as u8,
-        d: d as u8,
-        own: 0,
-        day,
-    };
+    let config = Config::new(n as u8, t as u8, d as u8, 0, day, quorum);
     if !config.good() {
         return ConfigRow::Bad;
     }

@@ -11,7 +11,7 @@ use lib.ListN.{length, replicate}
 use borrow.Author.Tests.{eqb-false}
 use Rattle.config.specs.declared.Config.{Config}
 use Rattle.config.specs.Config.{good, recordsSize, withOwn, slotOfDay}
-use Rattle.config.proofs.Laws.{good-says, says-good}
+use Rattle.config.proofs.Laws.{good-at-node}
 use Rattle.protocol.specs.Trace.{state}
 use Rattle.system.specs.Demand3.{Open, System, recordsAfter, buffer, configAt}
 use Rattle.system.proofs.Buffers.{buffer-length, open-zeros}
@@ -26,11 +26,6 @@ pub config-at : (w : Config) (u : ℕ) → configAt (systemOf w) u ≡ withOwn w
 unfolding configAt withOwn systemOf
 config-at w u = refl
 
--- it is good at each of them
-pub good-at : (w : Config) (u : ℕ) → good w ≡ true → u < w .n → good (withOwn w u) ≡ true
-unfolding withOwn
-good-at w u g known = let b = good-says w g in says-good (withOwn w u) (record { some = b .some; most = b .most; resilient = b .resilient; known = known })
-
 -- a step leaves the records that its call leaves
 pub step-leaves : (s : System) (u : ℕ) (step : Step) (records : List ℕ)
     → recordsBy (withOwn (s .shared) u) step records ≡ recordsAfter s u (callOf (s .shared) step) records
@@ -42,7 +37,7 @@ step-leaves s u (Receive from nth signers p) records = refl
 pub open-zeroed : (s : System) → good (s .shared) ≡ true → (u : ℕ) → u < s .shared .n → (records : List ℕ) → length records ≡ recordsSize (s .shared)
     → recordsAfter s u Open records ≡ replicate (recordsSize (s .shared)) 0
 unfolding recordsAfter configAt withOwn recordsSize
-open-zeroed s g u known records size = open-zeros (configAt s u) records (good-at (s .shared) u g known) size
+open-zeroed s g u known records size = open-zeros (configAt s u) records (good-at-node (s .shared) u g known) size
 
 -- after the openings every buffer is all zero, whatever it held before
 pub opened-buffer : (s : System) → good (s .shared) ≡ true → Sized s

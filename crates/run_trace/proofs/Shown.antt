@@ -6,14 +6,13 @@ use Prim.Native.Nat.{ℕ, _<_}
 use lib.ListN.{length-replicate}
 use Rattle.signers.proofs.Counting.{count-same}
 use Rattle.config.specs.Config.{recordsSize, withOwn, slotOfDay}
-use Rattle.config.proofs.Laws.{good-says}
+use Rattle.config.proofs.Laws.{good-says, good-at-node}
 use Rattle.protocol.specs.Trace.{Trace, start, _then_calls_}
 use Rattle.system.specs.Demand3.{Call, System, configAt, deliversIn, ever}
 use Rattle.system.proofs.Shown.{shown-answered}
 use Rattle.system.specs.Order.{InOrder, Orderly}
 use Rattle.run_trace.specs.RunTrace.{systemOf, callsOf, deliveredCount}
 use Rattle.run_trace.specs.Calls.{Sized, EachOpensFirstAndOnce, DeliveredAreShown, showsAfter, shownAfter}
-use Rattle.run_trace.proofs.Openings.{good-at}
 use Rattle.run_trace.proofs.Calls.{Within, run-begun}
 
 -- a list that opens first, at nodes of the table, is in order
@@ -30,7 +29,7 @@ delivered-are-shown config rows g dated sender seq =
     let begun = run-begun s rows in
     let orderly : Orderly s (callsOf config rows) =
     record {
-      configured = good-at config 0 g (good-says config g .some);
+      configured = good-at-node config 0 g (good-says config g .some);
       dated = dated;
       ordered = in-order s (λ u known. length-replicate {A = ℕ} (recordsSize config) 0) (callsOf config rows) (begun .first) (begun .within);
     } in

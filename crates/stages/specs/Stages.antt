@@ -7,6 +7,7 @@ use Prim.Native.Nat.{ℕ, _+_, _%_, _^_}
 use lib.Dec.{leb}
 use Rattle.octets.specs.Octets.{same}
 use Rattle.text.specs.Text.{ascii}
+use Rattle.config.specs.Config.{configOf}
 use Rattle.row.specs.declared.ConfigRow.{ConfigRow}
 use Rattle.row.specs.declared.ConfigRow.the-variants.{Good, Bad}
 use Rattle.row.specs.Row.{tableNames, stepNames, tableIn, rowIn}
@@ -26,7 +27,7 @@ rowNames = ascii "line act unit answer reason count\n"
 
 -- before the first line
 unfoldable pub startState : State
-startState = record { stage = TableNames; config = record { n = 0; t = 0; d = 0; own = 0; day = 0 }; ordinal = 0 }
+startState = record { stage = TableNames; config = configOf 0 0 0 0 0 0; ordinal = 0 }
 
 module _ (state : State) where
   -- ---- what is known after a line

@@ -45,13 +45,7 @@ pub struct Ended {
 pub fn start() -> State
     ensures { λ r. ⌜ r ≡ startState ⌝ }
 {
-    let config = Config {
-        n: 0,
-        t: 0,
-        d: 0,
-        own: 0,
-        day: 0,
-    };
+    let config = Config::new(0, 0, 0, 0, 0, 0);
     State {
         stage: Stage::TableNames,
         config,

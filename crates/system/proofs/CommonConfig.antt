@@ -11,7 +11,7 @@ use Rattle.octets.proofs.Numbers.{number-bytesOf}
 use Rattle.config.specs.declared.Config.{Config}
 use Rattle.config.specs.declared.Slot.{Slot}
 use Rattle.config.specs.Config.{withOwn, good, quorum, inRange, slotOfDay, sameSlot}
-use Rattle.config.proofs.Laws.{good-says, says-good, quorum-shared, same-slot-self}
+use Rattle.config.proofs.Laws.{good-at-node, quorum-at-node, same-slot-self}
 use Rattle.bundle.specs.declared.Header.{Header}
 use Rattle.bundle.specs.Bundle.{bundleOf, slotIn, read, payloadPart, slotOf, headerOf}
 use Rattle.protocol.proofs.WellFormed.{Bundled}
@@ -28,13 +28,11 @@ quorumOf s = quorum (configAt s 0)
 -- a good configuration is good at every node
 pub config-good : (s : System) (u : ℕ) → good (configAt s 0) ≡ true → u < s .shared .n → good (configAt s u) ≡ true
 unfolding configAt withOwn
-config-good s u g l =
-    let b = good-says (configAt s 0) g in
-    says-good (configAt s u) (record { some = b .some; most = b .most; resilient = b .resilient; known = l })
+config-good s u g l = good-at-node (configAt s 0) u g l
 
 pub config-quorum : (s : System) (u : ℕ) → good (configAt s 0) ≡ true → u < s .shared .n → quorum (configAt s u) ≡ quorumOf s
 unfolding configAt withOwn
-config-quorum s u g l = quorum-shared (configAt s u) (configAt s 0) refl refl (config-good s u g l) g
+config-quorum s u g l = quorum-at-node (configAt s 0) u g l
 
 -- ---- slots
 

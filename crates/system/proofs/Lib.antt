@@ -16,5 +16,6 @@ pub mod Computing
 pub mod ComputedTests
 pub mod SlotBySlot
 pub mod Example
+pub mod Stricter
 pub mod Tight
 pub mod Play

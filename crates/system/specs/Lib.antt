@@ -2,6 +2,7 @@
 pub mod Demand3
 pub mod Order
 pub mod Example
+pub mod Stricter
 pub mod SlotBySlot
 pub mod Differences
 pub mod Shown

@@ -4,6 +4,7 @@
 //! counted by callgrind, in the called functions alone, and do not depend on what else the machine does.
 
 use mbrb::random::Random;
+use mbrb::reference::least_quorum;
 use mbrb::{host, reference, Config};
 use std::hint::black_box;
 use std::process::Command;
@@ -15,11 +16,23 @@ const SLOTS: u8 = 16;
 const CALLS: usize = 1024;
 const ROUNDS: usize = 401;
 
-/// The reference behind the interface of the exported functions: five numbers and slices, in a call that is not inlined.
+#[inline(always)]
+fn config_from(n: u8, t: u8, d: u8, own: u8, day: u32, q: u32) -> Config {
+    Config {
+        n,
+        t,
+        d,
+        own,
+        day,
+        q,
+    }
+}
+
+/// The reference behind the interface of the exported functions: six numbers and slices, in a call that is not inlined.
 #[no_mangle]
 #[inline(never)]
-fn reference_open(n: u8, t: u8, d: u8, own: u8, day: u32, records: &mut [u8]) -> u32 {
-    let config = Config { n, t, d, own, day };
+fn reference_open(n: u8, t: u8, d: u8, own: u8, day: u32, q: u32, records: &mut [u8]) -> u32 {
+    let config = config_from(n, t, d, own, day, q);
     reference::open_code(&config, records)
 }
 
@@ -32,11 +45,12 @@ fn reference_broadcast(
     d: u8,
     own: u8,
     day: u32,
+    q: u32,
     payload: &[u8],
     records: &mut [u8],
     out: &mut [u8],
 ) -> u32 {
-    let config = Config { n, t, d, own, day };
+    let config = config_from(n, t, d, own, day, q);
     reference::broadcast_code(&config, payload, records, out)
 }
 
@@ -49,11 +63,12 @@ fn reference_receive(
     d: u8,
     own: u8,
     day: u32,
+    q: u32,
     bundle: &[u8],
     records: &mut [u8],
     out: &mut [u8],
 ) -> u32 {
-    let config = Config { n, t, d, own, day };
+    let config = config_from(n, t, d, own, day, q);
     reference::receive_code(&config, bundle, records, out)
 }
 
@@ -66,11 +81,12 @@ fn reference_preview(
     d: u8,
     own: u8,
     day: u32,
+    q: u32,
     bundle: &[u8],
     records: &[u8],
     out: &mut [u8],
 ) -> u32 {
-    let config = Config { n, t, d, own, day };
+    let config = config_from(n, t, d, own, day, q);
     reference::preview_code(&config, bundle, records, out)
 }
 
@@ -113,15 +129,10 @@ enum Found {
     Delivered(u32),
 }
 
+/// With the least quorum.
 fn config_of(n: u8, own: u8) -> Config {
     let (t, d) = ((n - 1) / 3, 0);
-    Config {
-        n,
-        t,
-        d,
-        own,
-        day: DAY,
-    }
+    config_from(n, t, d, own, DAY, least_quorum(n, t))
 }
 
 fn payload(random: &mut Random) -> [u8; 16] {
@@ -307,7 +318,7 @@ impl Row {
         macro_rules! by_numbers {
             ($call:expr) => {
                 |c: &Config, input: &[u8], records: &mut [u8], out: &mut [u8]| {
-                    $call(c.n, c.t, c.d, c.own, c.day, input, records, out)
+                    $call(c.n, c.t, c.d, c.own, c.day, c.q, input, records, out)
                 }
             };
         }
@@ -316,8 +327,9 @@ impl Row {
                 |c: &Config, _: &[u8], records: &mut [u8], _: &mut [u8]| $call(c, records)
             };
         }
-        let open_by_numbers =
-            |c: &Config, records: &mut [u8]| reference_open(c.n, c.t, c.d, c.own, c.day, records);
+        let open_by_numbers = |c: &Config, records: &mut [u8]| {
+            reference_open(c.n, c.t, c.d, c.own, c.day, c.q, records)
+        };
         match (side, self.kind) {
             (Side::Proved, Kind::Open) => each!(without_input!(host::open)),
             (Side::Proved, Kind::Broadcast) => each!(host::broadcast),

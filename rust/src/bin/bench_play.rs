@@ -18,13 +18,14 @@ const ROUNDS: usize = 21;
 const LARGE: usize = 200_000_000;
 const MOST_MEMORY: u64 = 8 << 20;
 
-/// Eight nodes, two of which may be faulty: the quorum is 6.
+/// Eight nodes, two of which may be faulty: no other quorum is possible.
 const CONFIG: Config = Config {
     n: 8,
     t: 2,
     d: 0,
     own: 0,
     day: 20_000,
+    q: 6,
 };
 
 fn payload(random: &mut Random) -> u128 {

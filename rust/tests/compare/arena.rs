@@ -10,6 +10,7 @@ pub const CONFIG: Config = Config {
     d: 0,
     own: 1,
     day: 7,
+    q: 3,
 };
 const ROOM: usize = 64;
 

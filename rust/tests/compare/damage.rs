@@ -2,7 +2,9 @@
 
 use crate::comparison::{Case, Kind};
 use crate::node::Node;
+use crate::quorums::bad_quorum;
 use crate::records::{choose, up_to};
+use mbrb::reference::least_quorum;
 use mbrb::{random::Random, Config};
 
 /// Does one thing to a call that some refusal is about.
@@ -61,9 +63,13 @@ fn toggle(bundle: &mut [u8], signers: u64) {
     }
 }
 
-/// A good config made bad, by one of its conditions or by sums that do not fit a byte.
+/// A good config made bad, half the time by its quorum alone; else by another of its conditions or by sums that do not fit a byte.
 fn bad_config(random: &mut Random, mut config: Config) -> Config {
     let Config { n, t, d, .. } = config;
+    if random.once_in(2) {
+        config.q = bad_quorum(random, &config);
+        return config;
+    }
     match random.below(7) {
         0 => config.n = 0,
         1 => config.n = 65 + up_to(random, 190) as u8,
@@ -72,6 +78,10 @@ fn bad_config(random: &mut Random, mut config: Config) -> Config {
         4 => config.t = (n - 2 * d).div_ceil(3),
         5 => config.t = 64 + random.below(192) as u8,
         _ => config.d = 64 + random.below(192) as u8,
+    }
+    // So that more nodes than 64 may be all that is wrong.
+    if random.once_in(2) {
+        config.q = least_quorum(config.n, config.t);
     }
     config
 }

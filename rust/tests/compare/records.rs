@@ -1,6 +1,7 @@
 //! Good configs and records from a seed: well-formed ones in each state, and malformed ones by each clause of what makes a record
 //! well-formed. The rules call them sound and unsound.
 
+use crate::quorums::{allowed, any_of};
 use mbrb::{random::Random, Config};
 
 /// 0, the most, or anything between.
@@ -23,8 +24,10 @@ pub fn bytes<const LENGTH: usize>(random: &mut Random) -> [u8; LENGTH] {
 pub fn good_config(random: &mut Random) -> Config {
     let most = if random.once_in(2) { 64 } else { 8 };
     let n = 1 + random.below(most);
-    let t = up_to(random, (n - 1) / 3);
-    let d = up_to(random, (n - 1 - 3 * t) / 2);
+    // With nodes that faults and losses do not need there is more than one quorum.
+    let needed = n - [0, 3][random.below(2)].min(n - 1);
+    let t = up_to(random, (needed - 1) / 3);
+    let d = up_to(random, (needed - 1 - 3 * t) / 2);
     let own = up_to(random, n - 1);
     let day = match random.below(4) {
         0 => 0,
@@ -32,7 +35,18 @@ pub fn good_config(random: &mut Random) -> Config {
         _ => random.word() as u32,
     };
     let [n, t, d, own] = [n, t, d, own].map(|number| number as u8);
-    Config { n, t, d, own, day }
+    let any_quorum = Config {
+        n,
+        t,
+        d,
+        own,
+        day,
+        q: 0,
+    };
+    Config {
+        q: any_of(random, allowed(&any_quorum)),
+        ..any_quorum
+    }
 }
 
 pub fn bit(node: u8) -> u64 {

@@ -1,6 +1,7 @@
 //! How often each code was seen, and from what.
 
 use crate::comparison::{Case, Kind};
+use crate::quorums::{edge, Choice, Edge, CHOICES};
 use crate::records::{Clause, CLAUSES, DELIVERED, EMPTY, HELD};
 use std::collections::BTreeMap;
 use std::fmt;
@@ -14,6 +15,19 @@ pub enum Meets {
     Delivered,
 }
 
+impl Meets {
+    pub fn of(case: &Case, record: &[u8; 32]) -> Option<Meets> {
+        let same = record.get(16..) == case.input.get(16..);
+        match record[0] {
+            EMPTY => Some(Meets::Empty),
+            HELD if same => Some(Meets::SamePayload),
+            HELD => Some(Meets::AnotherPayload),
+            DELIVERED => Some(Meets::Delivered),
+            _ => None,
+        }
+    }
+}
+
 #[derive(Default)]
 pub struct Tally {
     pub calls: u64,
@@ -23,6 +37,10 @@ pub struct Tally {
     /// refusals 21, by the clause that the record was made malformed by
     clauses: BTreeMap<(Kind, Clause), u64>,
     meetings: BTreeMap<(Kind, Meets, u32), u64>,
+    /// calls accepted, and others refused by 1, by the quorum of a config that is good otherwise
+    quorums: BTreeMap<(Kind, Choice, bool), u64>,
+    /// calls that a quorum stricter than the least decides by one signer; every code of announcing is 200 here
+    edges: BTreeMap<(Kind, Meets, Edge, u32), u64>,
     /// slots signed, kept, delivered and then refused at one node, all by calls
     pub lives: u64,
 }
@@ -32,18 +50,36 @@ impl Tally {
     pub fn count(&mut self, case: &Case, records: &[u8], clause: Option<Clause>, code: u32) {
         self.calls += 1;
         *self.codes.entry((case.kind, code)).or_default() += 1;
-        if code == 0 || code >= 100 {
+        let accepted = code == 0 || code >= 100;
+        if accepted {
             let key = (case.kind, case.config.n);
             *self.accepted.entry(key).or_default() += 1;
+        }
+        if let (true, Some(choice)) = (accepted || code == 1, Choice::of(&case.config)) {
+            let key = (case.kind, choice, accepted);
+            *self.quorums.entry(key).or_default() += 1;
         }
         if let (21, Some(clause)) = (code, clause) {
             *self.clauses.entry((case.kind, clause)).or_default() += 1;
         }
+        if code >= 21 {
+            self.count_by_record(case, records, clause, code);
+        }
+    }
+
+    /// Of a call that got as far as the records it is about.
+    fn count_by_record(&mut self, case: &Case, records: &[u8], clause: Option<Clause>, code: u32) {
+        let (start, length) = case.concerned();
+        let (records, _) = records[start..start + length].as_chunks();
         if BUNDLE_KINDS.contains(&case.kind) && code >= 22 {
-            if let Some(meets) = meets(case, records) {
+            if let Some(meets) = Meets::of(case, &records[0]) {
                 let key = (case.kind, meets, code);
                 *self.meetings.entry(key).or_default() += 1;
             }
+        }
+        if let Some((meets, edge)) = edge(case, records, clause, code) {
+            let key = (case.kind, meets, edge, code.min(200));
+            *self.edges.entry(key).or_default() += 1;
         }
     }
 
@@ -68,6 +104,16 @@ impl Tally {
         assert_seen("malformed by", &self.clauses, clauses, least);
         let meetings = of_bundles(MEETINGS).map(|(kind, (meets, code))| (kind, meets, code));
         assert_seen("record and code", &self.meetings, meetings, least);
+        let quorums = KINDS
+            .into_iter()
+            .flat_map(|kind| CHOICES.map(|choice| (kind, choice, choice.is_allowed())));
+        assert_seen("quorum, accepted", &self.quorums, quorums, least);
+        let edges = OWN_EDGES
+            .map(|edge| (Kind::Broadcast, edge))
+            .into_iter()
+            .chain(of_bundles(EDGES))
+            .map(|(kind, (meets, edge, code))| (kind, meets, edge, code));
+        assert_seen("stricter quorum", &self.edges, edges, least);
         assert!(
             self.lives >= least,
             "whole lives: {}, not {least}",
@@ -109,22 +155,25 @@ const MEETINGS: [(Meets, u32); 9] = [
     (Meets::Delivered, 22),
 ];
 
+const EDGES: [(Meets, Edge, u32); 8] = [
+    (Meets::Empty, Edge::OneShort, 101),
+    (Meets::Empty, Edge::Enough, 102),
+    (Meets::SamePayload, Edge::OneShort, 100),
+    (Meets::SamePayload, Edge::Enough, 102),
+    (Meets::AnotherPayload, Edge::OneShort, 24),
+    (Meets::AnotherPayload, Edge::Enough, 102),
+    (Meets::Delivered, Edge::OneShort, 21),
+    (Meets::Delivered, Edge::Enough, 22),
+];
+
+const OWN_EDGES: [(Meets, Edge, u32); 2] = [
+    (Meets::Delivered, Edge::OneShort, 21),
+    (Meets::Delivered, Edge::Enough, 200),
+];
+
 /// In our own slots the sender's bit is ours, so no record lacks just one of the two.
 fn in_our_slots(clause: Clause) -> bool {
     !matches!(clause, Clause::HeldWithoutSender | Clause::HeldWithoutOwn)
-}
-
-fn meets(case: &Case, records: &[u8]) -> Option<Meets> {
-    let (start, length) = case.concerned();
-    let record = &records[start..start + length];
-    let same = record.get(16..) == case.input.get(16..);
-    match *record.first()? {
-        EMPTY => Some(Meets::Empty),
-        HELD if same => Some(Meets::SamePayload),
-        HELD => Some(Meets::AnotherPayload),
-        DELIVERED => Some(Meets::Delivered),
-        _ => None,
-    }
 }
 
 fn assert_seen<Key: Copy + Ord + fmt::Debug>(
@@ -158,6 +207,21 @@ impl fmt::Display for Tally {
             "what a bundle meets, and the code",
             &self.meetings,
             |(kind, meets, code)| format!("{kind:?} {meets:?} {code}"),
+        )?;
+        show(
+            f,
+            "quorum of the config, and whether it is accepted",
+            &self.quorums,
+            |(kind, choice, accepted)| {
+                let answer = if *accepted { "accepted" } else { "refused 1" };
+                format!("{kind:?} {choice:?} {answer}")
+            },
+        )?;
+        show(
+            f,
+            "a stricter quorum than the least, what decides, and the code",
+            &self.edges,
+            |(kind, meets, edge, code)| format!("{kind:?} {meets:?} {edge:?} {code}"),
         )?;
         writeln!(f, "whole lives of slots: {}", self.lives)?;
         for kind in KINDS {

@@ -1,11 +1,13 @@
 //! What can be wrong with a run file. The lines are those between line feeds, so that an empty last one stands for the last line feed.
 
+use crate::heads::{numbers, quorums, NAMES_WITHOUT_QUORUM};
 use mbrb::random::Random;
 
 type Lines = Vec<Vec<u8>>;
 type Damage = fn(&mut Random, &mut Lines);
 
-pub const DAMAGES: [(&str, Damage); 23] = [
+/// Their number has no divisor in common with those by which files take turns otherwise, 2 and 5.
+pub const DAMAGES: [(&str, Damage); 31] = [
     ("bytes flipped", |random, lines| {
         in_bytes(random, lines, |random, bytes, at| {
             bytes[at] ^= 1 << random.below(8)
@@ -33,7 +35,7 @@ pub const DAMAGES: [(&str, Damage); 23] = [
     }),
     ("cut short in the head", |random, lines| {
         let mut bytes = lines.join(&b'\n');
-        bytes.truncate(random.below(70.min(bytes.len())));
+        bytes.truncate(random.below(78.min(bytes.len())));
         *lines = split(&bytes);
     }),
     ("lines swapped", |random, lines| {
@@ -86,6 +88,35 @@ pub const DAMAGES: [(&str, Damage); 23] = [
     ("another names line", |random, lines| {
         lines[2 * random.below(2)] = NAMES[random.below(NAMES.len())].into();
     }),
+    ("names and table without quorum", |_, lines| {
+        lines[0] = NAMES_WITHOUT_QUORUM.into();
+        drop_quorum(lines);
+    }),
+    ("names without quorum", |_, lines| {
+        lines[0] = NAMES_WITHOUT_QUORUM.into();
+    }),
+    ("a table without quorum", |_, lines| drop_quorum(lines)),
+    ("a table of six numbers", |random, lines| {
+        let sixth: [&[u8]; 3] = [b" 0", b" 3", b" 4294967295"];
+        lines[1].extend(sixth[random.below(3)]);
+    }),
+    ("a quorum one below the least", |_, lines| {
+        choose_quorum(lines, |least, _| least - 1)
+    }),
+    ("a quorum above the most", |random, lines| {
+        choose_quorum(lines, |_, most| {
+            most + [1, 1, 1 << 8, 1 << 31][random.below(4)]
+        })
+    }),
+    ("the smallest or the greatest quorum", |random, lines| {
+        choose_quorum(lines, |_, _| [0, u32::MAX.into()][random.below(2)])
+    }),
+    ("a quorum too large for 32 bits", |random, lines| {
+        choose_quorum(lines, |least, most| {
+            let shift = [32, 64, 96][random.below(3)];
+            (1 << shift) + [0, least, most][random.below(3)]
+        })
+    }),
     ("a row of about 120 bytes", |random, lines| {
         let length = [60, 61, 62, 119, 120, 121, 122, 128, 240, 241, 242][random.below(11)];
         let filler = some_filler(random);
@@ -130,63 +161,98 @@ const FIELDS: &str = "|-|+1|-1|+0|-0|00|01|007|08|0x1|1.|1e0|a|A|B|C|0|1|2|3|4|5
     000102030405060708090a0b0c0d0e0`|000102030405060708090a0b0c0d0e0g|000102030405060708090a0b0c0d0e0@";
 
 /// Good, bad and unreadable ones.
-const TABLES: [&str; 40] = [
-    "1 0 0 0",
-    "2 0 0 1",
-    "4 1 0 4294967295",
-    "8 2 0 7",
-    "8 0 3 10",
-    "8 1 2 1",
-    "0 0 0 0",
-    "5 1 1 7",
-    "8 3 0 7",
-    "8 0 4 7",
-    "9 0 0 7",
-    "10 1 1 7",
-    "16 0 0 7",
-    "63 0 0 0",
-    "64 21 0 7",
-    "64 0 31 7",
-    "64 0 32 7",
-    "65 0 0 7",
-    "255 0 0 7",
-    "255 255 255 7",
-    "256 0 0 7",
-    "257 0 0 7",
-    "260 1 0 7",
-    "4 256 0 7",
-    "4 257 0 7",
-    "4 1 256 7",
-    "4 0 65536 7",
-    "4 1 0 4294967296",
-    "4 1 0 4294967303",
-    "4 1 0 18446744073709551623",
-    "4 1 0 999999999999999999999999999999",
-    "4294967300 1 0 7",
-    "4 1 0",
-    "4 1 0 ",
+const TABLES: [&str; 55] = [
+    "1 0 0 0 1",
+    "2 0 0 1 2",
+    "4 1 0 4294967295 3",
+    "8 2 0 7 6",
+    "8 0 3 10 5",
+    "8 1 2 1 5",
+    "8 0 0 7 5",
+    "8 0 0 7 6",
+    "8 0 0 7 8",
+    "8 1 0 7 7",
+    "0 0 0 0 0",
+    "0 0 0 0 1",
+    "5 1 1 7 4",
+    "8 3 0 7 6",
+    "8 0 4 7 5",
+    "9 0 0 7 5",
+    "10 1 1 7 6",
+    "16 0 0 7 9",
+    "63 0 0 0 32",
+    "64 21 0 7 43",
+    "64 0 31 7 33",
+    "64 0 32 7 33",
+    "65 0 0 7 33",
+    "255 0 0 7 128",
+    "255 255 255 7 256",
+    "256 0 0 7 129",
+    "257 0 0 7 1",
+    "260 1 0 7 3",
+    "4 256 0 7 3",
+    "4 257 0 7 3",
+    "4 1 256 7 3",
+    "4 0 65536 7 3",
+    "4 1 0 4294967296 3",
+    "4 1 0 4294967303 3",
+    "4 1 0 18446744073709551623 3",
+    "4 1 0 999999999999999999999999999999 3",
+    "4294967300 1 0 7 3",
+    "4 1 0 7 2",
+    "4 1 0 7 4",
+    "4 1 0 7 259",
+    "4 1 0 7 2147483651",
+    "4 1 0 7 4294967295",
+    "4 1 0 7 4294967299",
+    "4 1 0 7 03",
+    "4 1 0 7 +3",
+    "4 1 0 7 -",
+    "4 1 0 7",
     "4 1 0 7 ",
-    "4 1 0 7 0",
-    " 4 1 0 7",
+    "4 1 0 7 3 ",
+    "4 1 0 7 3 3",
+    " 4 1 0 7 3",
+    "4 1 0 3",
     "",
-    "- - - -",
-    "units faults losses day",
+    "- - - - -",
+    "units faults losses day quorum",
 ];
 
-const NAMES: [&str; 12] = [
+const NAMES: [&str; 16] = [
+    "units faults losses day quorum",
     "units faults losses day",
     "act unit sender number signers body",
-    "Units faults losses day",
-    "units faults losses day ",
-    "units faults losses",
-    "units  faults losses day",
-    "unitsfaultslossesday",
+    "Units faults losses day quorum",
+    "units faults losses day Quorum",
+    "units faults losses day quorum ",
+    "units faults losses day quorum own",
+    "units faults losses quorum day",
+    "units faults losses quorum",
+    "units  faults losses day quorum",
+    "unitsfaultslossesdayquorum",
     "act unit sender number signers body ",
     "act unit sender number signers bodY",
     "act unit sender number signers bod",
     "act unit sender number signers bodyy",
     "",
 ];
+
+/// The quorum is what a table row ends in.
+fn drop_quorum(lines: &mut Lines) {
+    let space = lines[1].iter().rposition(|&byte| byte == b' ');
+    lines[1].truncate(space.expect("a table has five numbers"));
+}
+
+/// Puts another quorum into a good table, which is chosen by the least and the most that it may have.
+fn choose_quorum(lines: &mut Lines, choose: impl FnOnce(u128, u128) -> u128) {
+    let row = std::str::from_utf8(&lines[1]).expect("a table of digits");
+    let numbers = numbers(row).expect("plain numbers");
+    let (least, most) = quorums(&numbers).expect("a good table");
+    let quorum = choose(least, most);
+    drop_quorum(lines);
+    lines[1].extend(format!(" {quorum}").bytes());
+}
 
 fn split(bytes: &[u8]) -> Lines {
     let lines = bytes.split(|&byte| byte == b'\n');

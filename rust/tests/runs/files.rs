@@ -78,11 +78,22 @@ fn run(random: &mut Random) -> Vec<Vec<u8>> {
 
 fn config(random: &mut Random) -> Config {
     let n = 1 + random.below(8) as u8;
-    let t = random.below(usize::from(n - 1) / 3 + 1) as u8;
-    let d = random.below(usize::from(n - 1 - 3 * t) / 2 + 1) as u8;
+    // With units that faults and losses do not need there is more than one quorum.
+    let needed = n - [0, 3][random.below(2)].min(n - 1);
+    let t = random.below(usize::from(needed - 1) / 3 + 1) as u8;
+    let d = random.below(usize::from(needed - 1 - 3 * t) / 2 + 1) as u8;
     let day = [0, 7, 20_000, u32::MAX][random.below(4)];
-    let own = 0;
-    Config { n, t, d, own, day }
+    let mut config = Config {
+        n,
+        t,
+        d,
+        own: 0,
+        day,
+        q: 0,
+    };
+    let quorums: Vec<_> = config.quorums().expect("n > 3t + 2d").collect();
+    config.q = quorums[random.below(quorums.len())];
+    config
 }
 
 /// Few payloads, so that they meet again; all zero is one.
@@ -182,7 +193,8 @@ fn nonsense(random: &mut Random) -> String {
     fields.join(" ")
 }
 
-pub const HEAD: &str = "units faults losses day\n4 1 0 7\nact unit sender number signers body\n";
+pub const HEAD: &str =
+    "units faults losses day quorum\n4 1 0 7 3\nact unit sender number signers body\n";
 const BODY: &str = "000102030405060708090a0b0c0d0e0f";
 const BUFFER_ENDS: [usize; 5] = [4096, 8192, 16384, 32768, 65536];
 /// From one byte behind the end of a buffer to where the row with its line feed ends one byte before it; twice.

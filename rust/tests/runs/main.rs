@@ -5,6 +5,7 @@
 
 mod damage;
 mod files;
+mod heads;
 mod program;
 mod tally;
 mod wrong;

@@ -1,6 +1,7 @@
 //! How often each thing was seen that a run can print or have.
 
 use crate::files::{Feed, Made};
+use crate::heads::{Head, HEADS};
 use std::collections::BTreeMap;
 use std::fmt;
 
@@ -32,6 +33,7 @@ const OTHERS: [&str; 9] = [
 pub struct Tally {
     seen: BTreeMap<String, u64>,
     kinds: BTreeMap<&'static str, u64>,
+    heads: BTreeMap<Head, u64>,
 }
 
 impl Tally {
@@ -49,7 +51,12 @@ impl Tally {
                 _ => self.add(line.to_owned()),
             }
         }
-        if output != "no table\n" {
+        let no_table = output == "no table\n";
+        if let Some(head) = Head::of(&made.bytes) {
+            assert_ne!(no_table, head.has_table(), "{head:?}");
+            *self.heads.entry(head).or_default() += 1;
+        }
+        if !no_table {
             let rows = made.bytes.split(|&byte| byte == b'\n').skip(3);
             rows.filter(|row| row.len() > 120)
                 .for_each(|_| self.add("over-long row".to_owned()));
@@ -69,6 +76,10 @@ impl Tally {
             assert!(count >= least, "{key}: {count}, not {least}");
         }
         assert!(others.is_empty(), "cannot occur: {others:?}");
+        for head in HEADS {
+            let count = self.heads.get(&head).copied().unwrap_or(0);
+            assert!(count >= least / 4, "{head:?}: {count}, not {}", least / 4);
+        }
     }
 }
 
@@ -77,6 +88,13 @@ impl fmt::Display for Tally {
         writeln!(f, "rows, or files with no table")?;
         for (key, count) in &self.seen {
             writeln!(f, "  {key:34}{count:>9}")?;
+        }
+        writeln!(
+            f,
+            "files in which the quorum is right, or nothing else is wrong"
+        )?;
+        for (head, count) in &self.heads {
+            writeln!(f, "  {:34}{count:>9}", format!("{head:?}"))?;
         }
         writeln!(f, "files")?;
         for (kind, count) in &self.kinds {

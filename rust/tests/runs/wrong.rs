@@ -1,10 +1,11 @@
 //! Players that are the right one but for one thing, made by changing what it gets or what it prints: the comparison has to find each.
 
 use crate::expected;
+use crate::heads::{numbers, quorums, NAMES, NAMES_WITHOUT_QUORUM};
 
 type Player = fn(&[u8]) -> Vec<u8>;
 
-pub const PLAYERS: [(&str, Player); 14] = [
+pub const PLAYERS: [(&str, Player); 26] = [
     ("percent rounded up", |input| {
         let percent_of = |nodes: usize, n: usize| (100 * nodes).div_ceil(n);
         with_last_rows(input, percent_of)
@@ -86,6 +87,84 @@ pub const PLAYERS: [(&str, Player); 14] = [
             }
         }))
     }),
+    ("the fifth number is not looked at", |input| {
+        with_head(input, |_, fields, [least, _]| {
+            if fields.len() == 5 {
+                fields[4] = least.to_string();
+            }
+        })
+    }),
+    ("the least quorum is played", |input| {
+        with_quorum(input, |quorum, [least, most]| match quorum {
+            _ if (least..=most).contains(&quorum) => least,
+            _ => quorum,
+        })
+    }),
+    ("the most quorum is played", |input| {
+        with_quorum(input, |quorum, [least, most]| match quorum {
+            _ if (least..=most).contains(&quorum) => most,
+            _ => quorum,
+        })
+    }),
+    ("a quorum above the most accepted", |input| {
+        with_quorum(input, |quorum, [_, most]| quorum.min(most))
+    }),
+    ("a quorum one above the most accepted", |input| {
+        with_quorum(input, |quorum, [_, most]| match quorum {
+            _ if quorum == most + 1 => most,
+            _ => quorum,
+        })
+    }),
+    ("a quorum one below the least accepted", |input| {
+        with_quorum(input, |quorum, [least, _]| match quorum {
+            _ if quorum + 1 == least => least,
+            _ => quorum,
+        })
+    }),
+    ("a quorum of 0 is the least", |input| {
+        with_quorum(input, |quorum, [least, _]| match quorum {
+            0 => least,
+            _ => quorum,
+        })
+    }),
+    ("a quorum wraps at 32 bits", |input| {
+        with_quorum(input, |quorum, _| quorum % (1 << 32))
+    }),
+    ("four numbers accepted", |input| {
+        with_head(input, |names, fields, [least, _]| {
+            if names == NAMES && fields.len() == 4 {
+                fields.push(least.to_string());
+            }
+        })
+    }),
+    ("six numbers accepted", |input| {
+        with_head(input, |_, fields, _| {
+            if fields.len() == 6 {
+                fields.pop();
+            }
+        })
+    }),
+    (
+        "names without quorum accepted before a table without",
+        |input| {
+            with_head(input, |names, fields, [least, _]| {
+                if names == NAMES_WITHOUT_QUORUM && fields.len() == 4 {
+                    *names = NAMES.to_owned();
+                    fields.push(least.to_string());
+                }
+            })
+        },
+    ),
+    (
+        "names without quorum accepted before a table with one",
+        |input| {
+            with_head(input, |names, fields, _| {
+                if names == NAMES_WITHOUT_QUORUM && fields.len() == 5 {
+                    *names = NAMES.to_owned();
+                }
+            })
+        },
+    ),
     ("a last row without line feed is not played", |input| {
         let end = input.iter().rposition(|&byte| byte == b'\n');
         expected(&input[..end.map_or(0, |end| end + 1)])
@@ -98,6 +177,37 @@ pub const PLAYERS: [(&str, Player); 14] = [
         expected(&bytes)
     }),
 ];
+
+/// What is printed where the names line and the fields of the table are changed; the change knows the least and the most quorum. A table of
+/// other things than numbers, or that no quorum makes good, stays.
+fn with_head(input: &[u8], edit: impl Fn(&mut String, &mut Vec<String>, [u128; 2])) -> Vec<u8> {
+    let mut lines: Vec<_> = input.split(|&byte| byte == b'\n').collect();
+    let edited = || {
+        let mut names = String::from_utf8(lines.first()?.to_vec()).ok()?;
+        let row = std::str::from_utf8(lines.get(1)?).ok()?;
+        let (least, most) = quorums(&numbers(row)?)?;
+        let mut fields: Vec<_> = row.split(' ').map(str::to_owned).collect();
+        edit(&mut names, &mut fields, [least, most]);
+        Some([names, fields.join(" ")])
+    };
+    let Some(head) = edited() else {
+        return expected(input);
+    };
+    for (line, edited) in lines.iter_mut().zip(&head) {
+        *line = edited.as_bytes();
+    }
+    expected(&lines.join(&b'\n'))
+}
+
+/// The same for the quorum of five numbers alone.
+fn with_quorum(input: &[u8], edit: impl Fn(u128, [u128; 2]) -> u128) -> Vec<u8> {
+    with_head(input, |_, fields, range| {
+        if let [_, _, _, _, quorum] = &mut fields[..] {
+            let chosen = edit(quorum.parse().expect("a number"), range);
+            *quorum = chosen.to_string();
+        }
+    })
+}
 
 fn edit_lines(input: &[u8], mut edit: impl FnMut(&mut Vec<u8>)) -> Vec<u8> {
     let lines = input.split(|&byte| byte == b'\n');

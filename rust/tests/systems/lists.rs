@@ -6,12 +6,23 @@ use crate::network::Network;
 use crate::run::Run;
 use crate::trace::{Payload, Step, System};
 use mbrb::random::Random;
+use mbrb::Config;
+
+/// The quorum that the nodes go by.
+#[derive(Clone, Copy, Debug)]
+pub enum Quorum {
+    /// any that the table may have
+    Any,
+    Least,
+    Most,
+    OneBelow,
+    OneAbove,
+}
 
 /// How a list is made, apart from chance.
 #[derive(Clone, Copy)]
 pub struct Rules {
-    /// how much less than the system's t the nodes are told: the quorum is less by half of that
-    pub t_less: u8,
+    pub quorum: Quorum,
     /// how many correct nodes more than d a sending may miss
     pub missed_more: u32,
     /// the tables (n, t, d) to choose from; any good one if there are none
@@ -22,7 +33,7 @@ pub struct Rules {
 
 /// The rules of demand 3.
 pub const LAWFUL: Rules = Rules {
-    t_less: 0,
+    quorum: Quorum::Any,
     missed_more: 0,
     tables: &[],
     always_drained: false,
@@ -45,31 +56,61 @@ fn system(rules: Rules, random: &mut Random) -> System {
         t,
         d,
         day,
+        q: 0,
         faulty: 0,
     };
-    let faulty = match rules.t_less {
-        0 => mostly_the_most(usize::from(t), random) as u32,
+    system.q = match rules.quorum {
+        Quorum::Any => any_quorum(&system, random),
+        Quorum::Least | Quorum::OneBelow => *system.quorums().start(),
+        Quorum::Most | Quorum::OneAbove => *system.quorums().end(),
+    };
+    let faulty = match rules.quorum {
+        Quorum::Any => mostly_the_most(usize::from(t), random) as u32,
         _ => u32::from(t),
     };
     system.faulty = pick_some(system.correct(), faulty, random);
     system
 }
 
-/// Good tables, mostly small, and mostly such that one fault or one loss more would make them bad.
+fn any_quorum(system: &System, random: &mut Random) -> u32 {
+    let (least, most) = system.quorums().into_inner();
+    least + random.below((most - least) as usize + 1) as u32
+}
+
+/// The table that node 0 is given. The counts go by the quorum alone, so where that is not the system's the table names no faults and no
+/// losses: then it is good with more quorums.
+fn given_table(system: &System, rules: Rules) -> Config {
+    let table = system.config(0);
+    let with_any_quorum = |q| Config {
+        t: 0,
+        d: 0,
+        q,
+        ..table
+    };
+    match rules.quorum {
+        Quorum::Any | Quorum::Least | Quorum::Most => table,
+        Quorum::OneBelow => with_any_quorum(system.q - 1),
+        Quorum::OneAbove => with_any_quorum(system.q + 1),
+    }
+}
+
+/// Good tables, mostly small. One in three would mostly be bad with one fault or one loss more, and has a single quorum then; the others
+/// have nodes that faults and losses do not need, and mostly more than one quorum.
 fn any_table(random: &mut Random) -> (u8, u8, u8) {
     let n = match random.below(400) {
         0..=1 => 11 + random.below(54),
         2..=60 => 1 + random.below(10),
         _ => 4 + random.below(4),
     };
-    let t = mostly_the_most((n - 1) / 3, random);
-    let d = mostly_the_most((n - 1 - 3 * t) / 2, random);
+    let needless = [0, 2, 3][random.below(3)].min(n - 1);
+    let t = mostly_the_most((n - needless - 1) / 3, random);
+    let d = mostly_the_most((n - needless - 1 - 3 * t) / 2, random);
     (n as u8, t as u8, d as u8)
 }
 
 fn play(system: System, rules: Rules, random: &mut Random) -> Vec<Step> {
     let payloads = payloads(random);
-    let mut run = Run::new(system, system.t - rules.t_less, random);
+    let mut run = Run::new(system, given_table(&system, rules), random);
     let quorum = run.config(0).quorum();
     let adversary = Adversary::new(&system, quorum, payloads, random);
     let missed = u32::from(system.d) + rules.missed_more;

@@ -1,7 +1,8 @@
 //! Demand 3 as a test of the statement itself: whole systems, with faulty nodes and losses, through the exported functions.
 //!
-//! A list of calls comes from a seed; its conclusions are checked from the list alone. The same checks see violations where the quorum is
-//! one too small, and where one correct node more than d misses each sending.
+//! A list of calls comes from a seed, with any quorum that its table may have; its conclusions are checked from the list alone. The same
+//! checks see violations where the quorum is one less than the least or one more than the most, and where one correct node more than d
+//! misses each sending.
 //!
 //! MBRB_LISTS sets how many lists there are, MBRB_SEED the first one's seed.
 
@@ -15,7 +16,7 @@ mod tally;
 mod trace;
 
 use demand3::{Conclusion, History, Violation};
-use lists::{list, Rules, LAWFUL};
+use lists::{list, Quorum, Rules, LAWFUL};
 use mbrb::setting;
 use std::time::Instant;
 use tally::Tally;
@@ -83,6 +84,7 @@ fn broken_by(steps: &[Step]) -> Vec<Conclusion> {
         t: 1,
         d: 0,
         day: 7,
+        q: 3,
         faulty: 1 << 3,
     };
     let history = History::of(&system, steps);
@@ -139,20 +141,34 @@ fn each_safety_conclusion_is_seen_to_break() {
     assert_eq!(broken_by(&[signed(), signed(), signed()]), [Twice]);
 }
 
-/// Tables that stay good with t - 2 in place of t, which makes the quorum smaller by one.
-const TWO_FAULTS_OR_MORE: &[(u8, u8, u8)] = &[
+/// Tables that leave room below the least quorum: a node that is told of no faults accepts one less.
+const SEVERAL_FAULTS: &[(u8, u8, u8)] = &[
+    (5, 1, 0),
+    (7, 1, 1),
     (7, 2, 0),
     (8, 2, 0),
     (9, 2, 1),
     (10, 2, 0),
     (10, 3, 0),
-    (11, 3, 0),
     (12, 3, 1),
     (13, 4, 0),
 ];
 
-/// How many of 10,000 lists break each conclusion, and the shortest that breaks agreement.
-fn count_violations(rules: Rules) -> ([u64; 6], Vec<String>) {
+/// Tables with a fault or a loss: the most quorum is less than n.
+const FAULT_OR_LOSS: &[(u8, u8, u8)] = &[
+    (3, 0, 1),
+    (4, 1, 0),
+    (5, 0, 2),
+    (5, 1, 0),
+    (6, 0, 1),
+    (6, 1, 1),
+    (7, 1, 0),
+    (7, 2, 0),
+    (9, 2, 1),
+];
+
+/// How many of 10,000 lists break each conclusion, and the calls of the shortest that breaks this one.
+fn count_violations(rules: Rules, shortest_of: Conclusion) -> ([u64; 6], Vec<String>) {
     let mut counts = [0; 6];
     let mut shortest = Vec::new();
     for seed in (first_seed()..).take(10_000) {
@@ -161,7 +177,7 @@ fn count_violations(rules: Rules) -> ([u64; 6], Vec<String>) {
             counts[violation.conclusion as usize] += 1;
             let calls = shown(&system, &trace, &violation);
             let shorter = shortest.is_empty() || calls.len() < shortest.len();
-            if violation.conclusion == Conclusion::Agreement && shorter {
+            if violation.conclusion == shortest_of && shorter {
                 shortest = calls;
             }
         }
@@ -169,24 +185,55 @@ fn count_violations(rules: Rules) -> ([u64; 6], Vec<String>) {
     (counts, shortest)
 }
 
-#[test]
-fn a_quorum_lowered_by_one_is_seen() {
-    let quorum_needed = Rules {
-        tables: TWO_FAULTS_OR_MORE,
-        ..LAWFUL
-    };
-    let quorum_lowered = Rules {
-        t_less: 2,
-        ..quorum_needed
-    };
-    assert_eq!(count_violations(quorum_needed).0, [0; 6]);
-    let (broken, shortest) = count_violations(quorum_lowered);
-    println!("quorum lowered by one, broken in 10000 lists:");
+/// With the right quorum no list breaks a conclusion; with the wrong one at least a hundred break this one, and none breaks another than
+/// those named.
+fn assert_seen(right: Rules, wrong: Rules, conclusion: Conclusion, others: &[Conclusion]) {
+    assert_eq!(count_violations(right, conclusion).0, [0; 6]);
+    let (broken, shortest) = count_violations(wrong, conclusion);
+    println!("quorum {:?}, broken in 10000 lists:", wrong.quorum);
     for conclusion in Conclusion::ALL {
         println!("  {conclusion:?}: {}", broken[conclusion as usize]);
     }
     println!("{}", shortest.join("\n"));
-    assert!(broken[Conclusion::Agreement as usize] >= 100);
+    assert!(broken[conclusion as usize] >= 100);
+    for other in Conclusion::ALL {
+        let may_break = other == conclusion || others.contains(&other);
+        assert!(may_break || broken[other as usize] == 0, "{other:?}");
+    }
+}
+
+#[test]
+fn a_quorum_one_below_the_least_is_seen() {
+    let least = Rules {
+        quorum: Quorum::Least,
+        tables: SEVERAL_FAULTS,
+        ..LAWFUL
+    };
+    let one_below = Rules {
+        quorum: Quorum::OneBelow,
+        ..least
+    };
+    assert_seen(
+        least,
+        one_below,
+        Conclusion::Agreement,
+        &[Conclusion::Delivery],
+    );
+}
+
+#[test]
+fn a_quorum_one_above_the_most_is_seen() {
+    let most = Rules {
+        quorum: Quorum::Most,
+        tables: FAULT_OR_LOSS,
+        always_drained: true,
+        ..LAWFUL
+    };
+    let one_above = Rules {
+        quorum: Quorum::OneAbove,
+        ..most
+    };
+    assert_seen(most, one_above, Conclusion::Delivery, &[]);
 }
 
 #[test]

@@ -10,8 +10,8 @@ const UNSENT: u8 = 0xee;
 
 pub struct Run {
     pub system: System,
-    /// what the nodes are handed as t: the system's own, or a smaller one, for a smaller quorum
-    t_in_configs: u8,
+    /// what the nodes are given, but for their own numbers: the system's table, or one with another quorum
+    table: Config,
     records: Vec<Vec<u8>>,
     opened: u64,
     pub trace: Vec<Step>,
@@ -24,7 +24,8 @@ pub struct Run {
 
 impl Run {
     /// Nothing is called yet; the buffers have any content.
-    pub fn new(system: System, t_in_configs: u8, random: &mut Random) -> Run {
+    pub fn new(system: System, table: Config, random: &mut Random) -> Run {
+        assert!(table.good(), "{table:?}");
         let mut buffer = |_| {
             (0..64 * usize::from(system.n))
                 .flat_map(|_| random.word().to_ne_bytes())
@@ -32,7 +33,7 @@ impl Run {
         };
         Run {
             system,
-            t_in_configs,
+            table,
             records: (0..system.n).map(&mut buffer).collect(),
             opened: 0,
             trace: Vec::new(),
@@ -44,10 +45,7 @@ impl Run {
 
     /// The table of a node, and the quorum that it goes by.
     pub fn config(&self, own: u8) -> Config {
-        Config {
-            t: self.t_in_configs,
-            ..self.system.config(own)
-        }
+        Config { own, ..self.table }
     }
 
     pub fn broadcast(&mut self, node: u8, payload: &[u8], out_length: usize) {

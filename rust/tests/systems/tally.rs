@@ -25,6 +25,20 @@ pub struct Tally {
     premise_barely_held: u64,
     /// lists in which some sending did not reach enough nodes
     premise_failed: u64,
+    /// lists with a stricter quorum than the least, and of what there is in those
+    strict: Strict,
+}
+
+#[derive(Default)]
+struct Strict {
+    lists: u64,
+    /// with less than the most
+    between: u64,
+    faulty: u64,
+    premise_held: u64,
+    delivered: u64,
+    /// bundles with signers enough for the least quorum, which were not delivered
+    held_back: u64,
 }
 
 /// The refusals of lawful lists. Of the others, 26 is not for these calls; the tables are good (1), the buffers have their length (20), the
@@ -38,6 +52,9 @@ impl Tally {
         trace.iter().for_each(|step| self.add_step(step));
         self.equivocating += u64::from(equivocates(trace));
         self.add_premise(system, history);
+        if system.is_strict() {
+            self.strict.add(system, trace, history);
+        }
     }
 
     fn add_step(&mut self, step: &Step) {
@@ -69,7 +86,7 @@ impl Tally {
     }
 
     /// Each count, and how many there must be in a hundred lists.
-    fn counts(&self) -> [(&str, u64, u64); 10] {
+    fn counts(&self) -> [(&str, u64, u64); 16] {
         [
             ("calls", self.calls, 2000),
             ("announced", self.announced, 40),
@@ -89,6 +106,20 @@ impl Tally {
                 self.premise_failed,
                 20,
             ),
+            ("lists with a stricter quorum", self.strict.lists, 20),
+            ("of them with less than the most", self.strict.between, 2),
+            ("of them with faulty nodes", self.strict.faulty, 5),
+            (
+                "of them with the delivery premise",
+                self.strict.premise_held,
+                5,
+            ),
+            ("delivered by a stricter quorum", self.strict.delivered, 20),
+            (
+                "bundles with the least quorum, held back",
+                self.strict.held_back,
+                10,
+            ),
         ]
     }
 
@@ -101,6 +132,26 @@ impl Tally {
             let count = self.refused[number];
             assert!(count >= self.lists / 2000, "{count} refused {number}");
         }
+    }
+}
+
+impl Strict {
+    fn add(&mut self, system: &System, trace: &[Step], history: &History) {
+        let (least, most) = system.quorums().into_inner();
+        self.lists += 1;
+        self.between += u64::from(system.q < most);
+        self.faulty += u64::from(system.faulty != 0);
+        let reached = demand3::reached(history, system.nearly_all());
+        self.premise_held += u64::from(reached && history.has_something_to_deliver());
+        let held_back = |step: &&Step| {
+            matches!(step.code, KEPT | SIGNED | 24)
+                && step
+                    .accepts()
+                    .is_some_and(|fields| fields.signers.count_ones() >= least)
+        };
+        let delivered = |step: &&Step| step.code == DELIVERED;
+        self.held_back += trace.iter().filter(held_back).count() as u64;
+        self.delivered += trace.iter().filter(delivered).count() as u64;
     }
 }
 

@@ -5,6 +5,7 @@
 
 use mbrb::Config;
 use std::fmt;
+use std::ops::RangeInclusive;
 
 pub type Payload = [u8; 16];
 pub type Bundle = [u8; 32];
@@ -39,6 +40,7 @@ pub struct System {
     pub t: u8,
     pub d: u8,
     pub day: u32,
+    pub q: u32,
     pub faulty: u64,
 }
 
@@ -50,7 +52,18 @@ impl System {
             d: self.d,
             own,
             day: self.day,
+            q: self.q,
         }
+    }
+
+    /// The quorums that its table may have.
+    pub fn quorums(&self) -> RangeInclusive<u32> {
+        self.config(0).quorums().expect("good with some quorum")
+    }
+
+    /// The quorum is not the least one.
+    pub fn is_strict(&self) -> bool {
+        self.q > *self.quorums().start()
     }
 
     pub fn correct(&self) -> u64 {
@@ -195,9 +208,9 @@ impl Step {
 
 impl fmt::Display for System {
     fn fmt(&self, f: &mut fmt::Formatter) -> fmt::Result {
-        let System { n, t, d, .. } = self;
+        let System { n, t, d, q, .. } = self;
         let faulty: Vec<u8> = nodes_of(self.faulty).collect();
-        write!(f, "n {n}, t {t}, d {d}, faulty {faulty:?}")
+        write!(f, "n {n}, t {t}, d {d}, q {q}, faulty {faulty:?}")
     }
 }
 

@@ -1,4 +1,4 @@
--- `mbrb_broadcast` meets its contract: it is the call on the configuration that the five numbers give. Assumes nothing.
+-- `mbrb_broadcast` meets its contract: it is the call on the configuration that the six numbers give. Assumes nothing.
 use mathlib.Core.Path.{ap, _∙_}
 use borrow.Author.Needs.{needs}
 use Rattle.config.specs.declared.Config.{Config}
@@ -9,8 +9,8 @@ use Rattle.mbrb.proofs.mbrb_broadcast.Tie as tie
 
 -- ---- the needs
 
-config-requires : tie.Need-config-requires
-config-requires c κs = search needs
+new-requires : tie.Need-new-requires
+new-requires c κs = search needs
 
 broadcast-requires : tie.Need-broadcast-requires
 broadcast-requires c κs = search needs
@@ -31,10 +31,10 @@ returns c =
     let a = configured .before .before .before .before .args in (
       c .announcement-code .ensures
           ∙ ap announcedCode (called .broadcast .ensures .0)
-          ∙ ap (λ (config : Config). announcedCode (broadcast config (a .payload .now) (a .records .now) (a .out .now))) (configured .config .ensures),
+          ∙ ap (λ (config : Config). announcedCode (broadcast config (a .payload .now) (a .records .now) (a .out .now))) (configured .new .ensures),
       (
-        called .broadcast .ensures .1 .0 ∙ ap (λ (config : Config). broadcastRecords config (a .payload .now) (a .records .now) (a .out .now)) (configured .config .ensures),
-        called .broadcast .ensures .1 .1 ∙ ap (λ (config : Config). broadcastOut config (a .payload .now) (a .records .now) (a .out .now)) (configured .config .ensures),
+        called .broadcast .ensures .1 .0 ∙ ap (λ (config : Config). broadcastRecords config (a .payload .now) (a .records .now) (a .out .now)) (configured .new .ensures),
+        called .broadcast .ensures .1 .1 ∙ ap (λ (config : Config). broadcastOut config (a .payload .now) (a .records .now) (a .out .now)) (configured .new .ensures),
       ),
     )
 
@@ -42,7 +42,7 @@ pub mbrb-broadcast-spec : {M : Type 1} → statement M
 mbrb-broadcast-spec =
     tie.close
     (tie.spec
-    config-requires
+    new-requires
     broadcast-requires
     announcement-code-requires
     same-length

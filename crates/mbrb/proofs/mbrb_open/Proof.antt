@@ -1,4 +1,4 @@
--- `mbrb_open` meets its contract: it is the call on the configuration that the five numbers give. Assumes nothing.
+-- `mbrb_open` meets its contract: it is the call on the configuration that the six numbers give. Assumes nothing.
 use mathlib.Core.Path.{ap, _∙_}
 use borrow.Author.Needs.{needs}
 use Rattle.refusal.specs.Outcome.{Outcome}
@@ -11,8 +11,8 @@ use Rattle.mbrb.proofs.mbrb_open.Tie as tie
 
 -- ---- the needs
 
-config-requires : tie.Need-config-requires
-config-requires c κs = search needs
+new-requires : tie.Need-new-requires
+new-requires c κs = search needs
 
 open-requires : tie.Need-open-requires
 open-requires c κs = search needs
@@ -30,9 +30,9 @@ returns c =
     let a = configured .before .before .args in (
       c .verdict-code .ensures
           ∙ ap (λ (o : Outcome Unit). openedCode o) (called .open .ensures .0) ∙ plain-opened _ _
-          ∙ ap (λ (config : Config). openedCode (opened config (a .records .now))) (configured .config .ensures),
-      called .open .ensures .1 ∙ ap (λ (config : Config). openRecords config (a .records .now)) (configured .config .ensures),
+          ∙ ap (λ (config : Config). openedCode (opened config (a .records .now))) (configured .new .ensures),
+      called .open .ensures .1 ∙ ap (λ (config : Config). openRecords config (a .records .now)) (configured .new .ensures),
     )
 
 pub mbrb-open-spec : {M : Type 1} → statement M
-mbrb-open-spec = tie.close (tie.spec config-requires open-requires verdict-code-requires same-length returns)
+mbrb-open-spec = tie.close (tie.spec new-requires open-requires verdict-code-requires same-length returns)

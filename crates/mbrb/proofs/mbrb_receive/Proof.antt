@@ -1,4 +1,4 @@
--- `mbrb_receive` meets its contract: it is the call on the configuration that the five numbers give. Assumes nothing.
+-- `mbrb_receive` meets its contract: it is the call on the configuration that the six numbers give. Assumes nothing.
 use mathlib.Core.Path.{ap, _∙_}
 use borrow.Author.Needs.{needs}
 use Rattle.config.specs.declared.Config.{Config}
@@ -10,8 +10,8 @@ use Rattle.mbrb.proofs.mbrb_receive.Tie as tie
 
 -- ---- the needs
 
-config-requires : tie.Need-config-requires
-config-requires c κs = search needs
+new-requires : tie.Need-new-requires
+new-requires c κs = search needs
 
 receive-requires : tie.Need-receive-requires
 receive-requires c κs = search needs
@@ -32,10 +32,10 @@ returns c =
     let a = configured .before .before .before .before .args in (
       c .receipt-code .ensures
           ∙ ap reportedCode (called .receive .ensures .0) ∙ reported-received _ _ _ _
-          ∙ ap (λ (config : Config). receivedCode (receive config (a .bundle .now) (a .records .now) (a .out .now))) (configured .config .ensures),
+          ∙ ap (λ (config : Config). receivedCode (receive config (a .bundle .now) (a .records .now) (a .out .now))) (configured .new .ensures),
       (
-        called .receive .ensures .1 .0 ∙ ap (λ (config : Config). receiveRecords config (a .bundle .now) (a .records .now) (a .out .now)) (configured .config .ensures),
-        called .receive .ensures .1 .1 ∙ ap (λ (config : Config). receiveOut config (a .bundle .now) (a .records .now) (a .out .now)) (configured .config .ensures),
+        called .receive .ensures .1 .0 ∙ ap (λ (config : Config). receiveRecords config (a .bundle .now) (a .records .now) (a .out .now)) (configured .new .ensures),
+        called .receive .ensures .1 .1 ∙ ap (λ (config : Config). receiveOut config (a .bundle .now) (a .records .now) (a .out .now)) (configured .new .ensures),
       ),
     )
 
@@ -43,7 +43,7 @@ pub mbrb-receive-spec : {M : Type 1} → statement M
 mbrb-receive-spec =
     tie.close
     (tie.spec
-    config-requires
+    new-requires
     receive-requires
     receipt-code-requires
     same-length

@@ -1,4 +1,4 @@
--- `mbrb_preview` meets its contract: it is the call on the configuration that the five numbers give. Assumes nothing.
+-- `mbrb_preview` meets its contract: it is the call on the configuration that the six numbers give. Assumes nothing.
 use mathlib.Core.Path.{ap, _∙_}
 use Rattle.config.specs.declared.Config.{Config}
 use Rattle.calls.specs.Receive.{receive, receiveOut}
@@ -8,11 +8,11 @@ use borrow.Author.Needs.{needs}
 use Rattle.mbrb_preview.proofs.mbrb_preview.Statement.{statement}
 use Rattle.mbrb_preview.proofs.mbrb_preview.Tie as tie
 use Rattle.calls.proofs.preview.Reads as preview-reads
-use Rattle.mbrb.proofs.config.Reads as config-reads
+use Rattle.config.proofs.Config.new.Reads as new-reads
 use Rattle.mbrb.proofs.receipt_code.Reads as receipt-code-reads
 
-config-requires : tie.Need-config-requires
-config-requires c κs = search needs
+new-requires : tie.Need-new-requires
+new-requires c κs = search needs
 
 preview-requires : tie.Need-preview-requires
 preview-requires c κs = search needs
@@ -30,10 +30,10 @@ returns c =
     let a = configured .before .before .before .before .args in (
       c .receipt-code .ensures
           ∙ ap reportedCode (called .preview .ensures .0) ∙ reported-received _ _ _ _
-          ∙ ap (λ (config : Config). receivedCode (receive config (a .bundle .now) (a .records .now) (a .out .now))) (configured .config .ensures),
-      called .preview .ensures .1 ∙ ap (λ (config : Config). receiveOut config (a .bundle .now) (a .records .now) (a .out .now)) (configured .config .ensures),
+          ∙ ap (λ (config : Config). receivedCode (receive config (a .bundle .now) (a .records .now) (a .out .now))) (configured .new .ensures),
+      called .preview .ensures .1 ∙ ap (λ (config : Config). receiveOut config (a .bundle .now) (a .records .now) (a .out .now)) (configured .new .ensures),
     )
 
 pub mbrb-preview-spec : {M : Type 1} → statement M
 mbrb-preview-spec =
-    tie.close (tie.spec config-requires preview-requires receipt-code-requires same-length returns)
+    tie.close (tie.spec new-requires preview-requires receipt-code-requires same-length returns)

@@ -1,4 +1,5 @@
 -- `read_table` meets its contract: each number is read where the one before it ended. Assumes nothing.
+use mathlib.Core.Path.{_≡_, sym}
 use mathlib.Core.List.{List}
 use Prim.Native.Nat.{ℕ, _-_, _^_}
 use native.Mathlib.Omega.{arith}
@@ -12,6 +13,9 @@ use Rattle.row.proofs.read_table.Tie as tie
 
 -- ---- the places where a number was read
 
+abbrev day : tie.After-known-told5 → tie.After-known-told4
+day c = c .before .before .before .before
+
 abbrev losses : tie.After-known-told4 → tie.After-known-told3
 losses c = c .before .before .before .before
 
@@ -23,6 +27,9 @@ nodes c = c .before .before .before .before
 
 abbrev line : tie.After-known-told → List ℕ
 line c = c .before .before .before .before .before .args .line .now
+
+abbrev first : tie.After-known-told5 → tie.After-known-told
+first c = nodes (faults (losses (day c)))
 
 -- ---- each field, and the configuration that they give
 
@@ -38,15 +45,33 @@ losses-read c = number-read 255 (faults-read (faults c) .starts) (c .before .bef
 day-read : (c : tie.After-known-told4) → NumberRead (2 ^ 32 - 1) 3 (line (nodes (faults (losses c)))) (c .before .day .given .0 .0) (c .before .day .given .0 .1 .0)
 day-read c = number-read (2 ^ 32 - 1) (losses-read (losses c) .starts) (c .before .before .before .number-at4 .ensures) (c .before .day .given .1)
 
-fields-read : (c : tie.Else1) → TableFields (line (nodes (faults (losses (c .before)))))
+quorum-read : (c : tie.After-known-told5) → NumberRead (2 ^ 32 - 1) 4 (line (first c)) (c .before .quorum .given .0 .0) (c .before .quorum .given .0 .1 .0)
+quorum-read c = number-read (2 ^ 32 - 1) (day-read (day c) .starts) (c .before .before .before .number-at5 .ensures) (c .before .quorum .given .1)
+
+fields-read : (c : tie.Else1) → TableFields (line (first (c .before)))
 fields-read c =
     record {
-      nodes = nodes-read (nodes (faults (losses (c .before)))) .plain;
-      faults = faults-read (faults (losses (c .before))) .plain;
-      losses = losses-read (losses (c .before)) .plain;
-      day = day-read (c .before) .plain;
-      last = day-read (c .before) .last (c .if1 .left);
+      nodes = nodes-read (first (c .before)) .plain;
+      faults = faults-read (faults (losses (day (c .before)))) .plain;
+      losses = losses-read (losses (day (c .before))) .plain;
+      day = day-read (day (c .before)) .plain;
+      quorum = quorum-read (c .before) .plain;
+      last = quorum-read (c .before) .last (c .if1 .left);
     }
+
+config-read : (c : tie.After-new) → configIn (line (first (c .before .before))) ≡ c .new .result
+unfolding configIn
+config-read c =
+    let at = c .before .before in
+    rw (
+      nodes-read (first at) .is,
+      faults-read (faults (losses (day at))) .is,
+      losses-read (losses (day at)) .is,
+      day-read (day at) .is,
+      ← fields-read (c .before) .last,
+      quorum-read at .is,
+    )
+    (sym (c .new .ensures))
 
 -- ---- the needs
 
@@ -98,41 +123,44 @@ enum-told-4 c = search needs
 returns-4 : tie.Need-returns-4
 returns-4 c = table-refused _ (λ f. number-missing (2 ^ 32 - 1) (losses-read (c .before .before .before) .starts) (c .before .before .number-at4 .ensures) (c .enum-told4 .given .1) (f .day))
 
+number-at-requires-5 : tie.Need-number-at-requires-5
+number-at-requires-5 c κs = search needs
+
+enum-known-quorum : tie.Need-enum-known-quorum
+enum-known-quorum c = search needs
+
+enum-told-5 : tie.Need-enum-told-5
+enum-told-5 c = search needs
+
+returns-5 : tie.Need-returns-5
+returns-5 c = table-refused _ (λ f. number-missing (2 ^ 32 - 1) (day-read (c .before .before .before) .starts) (c .before .before .number-at5 .ensures) (c .enum-told5 .given .1) (f .quorum))
+
 add-if1 : tie.Need-add-if1
 add-if1 c = search needs
 
-returns-5 : tie.Need-returns-5
-returns-5 c = table-refused _ (λ f. c .if1 .taken (day-read (c .before) .ends (f .last)))
+returns-6 : tie.Need-returns-6
+returns-6 c = table-refused _ (λ f. c .if1 .taken (quorum-read (c .before) .ends (f .last)))
 
-cast-t18 : tie.Need-cast-t18
-cast-t18 c = omega (arith, nodes-read (nodes (faults (losses (c .before)))) .within)
+cast-new : tie.Need-cast-new
+cast-new c = omega (arith, nodes-read (first (c .before)) .within)
 
-cast-t19 : tie.Need-cast-t19
-cast-t19 c = omega (arith, faults-read (faults (losses (c .before))) .within)
+cast-new-2 : tie.Need-cast-new-2
+cast-new-2 c = omega (arith, faults-read (faults (losses (day (c .before)))) .within)
 
-cast-t20 : tie.Need-cast-t20
-cast-t20 c = omega (arith, losses-read (losses (c .before)) .within)
+cast-new-3 : tie.Need-cast-new-3
+cast-new-3 c = omega (arith, losses-read (losses (day (c .before))) .within)
+
+new-requires : tie.Need-new-requires
+new-requires c κs = search needs
 
 good-requires : tie.Need-good-requires
 good-requires c κs = search needs
 
-returns-6 : tie.Need-returns-6
-unfolding configIn
-returns-6 c =
-    let day = c .before .before .before in
-    let whole = fields-read (c .before .before) .last in
-    table-not-good _ _ _ (c .before .good2 .ensures)
-    (rw (nodes-read (nodes (faults (losses day))) .is, faults-read (faults (losses day)) .is, losses-read (losses day) .is, ← whole, day-read day .is))
-    (not-true _ (c .if2 .taken))
-
 returns-7 : tie.Need-returns-7
-unfolding configIn
-returns-7 c =
-    let day = c .before .before .before in
-    let whole = fields-read (c .before .before) .last in
-    table-read _ _ _ (c .before .good2 .ensures)
-    (rw (nodes-read (nodes (faults (losses day))) .is, faults-read (faults (losses day)) .is, losses-read (losses day) .is, ← whole, day-read day .is))
-    (not-false _ (c .if2 .left)) (fields-read (c .before .before))
+returns-7 c = table-not-good _ _ _ (c .before .good2 .ensures) (config-read (c .before .before)) (not-true _ (c .if2 .taken))
+
+returns-8 : tie.Need-returns-8
+returns-8 c = table-read _ _ _ (c .before .good2 .ensures) (config-read (c .before .before)) (not-false _ (c .if2 .left)) (fields-read (c .before .before .before))
 
 pub read-table-spec : {M : Type 1} → statement M
 read-table-spec =
@@ -154,11 +182,16 @@ read-table-spec =
     enum-known-day
     enum-told-4
     returns-4
-    add-if1
+    number-at-requires-5
+    enum-known-quorum
+    enum-told-5
     returns-5
-    cast-t18
-    cast-t19
-    cast-t20
-    good-requires
+    add-if1
     returns-6
-    returns-7)
+    cast-new
+    cast-new-2
+    cast-new-3
+    new-requires
+    good-requires
+    returns-7
+    returns-8)
