@@ -278,8 +278,8 @@ extern "C" {
 /* The version of this interface and of the formats below. CHANGELOG.md says what each number stands for. */
 #define MBRB_VERSION_MAJOR 2
 #define MBRB_VERSION_MINOR 0
-#define MBRB_VERSION_PATCH 0
-#define MBRB_VERSION "2.0.0"
+#define MBRB_VERSION_PATCH 1
+#define MBRB_VERSION "2.0.1"
 
 /* Sizes of the buffers, in bytes. */
 #define MBRB_BODY_SIZE 16

@@ -279,16 +279,22 @@ impl System {
         let counted = slots.map(move |(sender, seq)| {
             let delivered = |node: &&Node| node.has_delivered(sender, seq);
             let nodes = self.nodes.iter().filter(delivered).count();
-            let percent = 100 * nodes / n;
             DeliveredSlot {
                 sender,
                 seq,
                 nodes,
-                percent,
+                percent: percent(nodes, n),
             }
         });
         counted.filter(|slot| slot.nodes > 0)
     }
+}
+
+/// How many percent `nodes` of `n` are, to the nearest whole number; half-way between two it is the even one. The division rounds as well, to
+/// a binary fraction, and that changes nothing: a quotient that lies half-way is a binary fraction and comes out as it is, and any other lies
+/// at least 1 / 2n from there, which is far more than the division can err.
+fn percent(nodes: usize, n: usize) -> usize {
+    (100.0 * nodes as f64 / n as f64).round_ties_even() as usize
 }
 
 /// The output, of which no more than a buffer waits to be written. The formatting of the standard library would take longer than a step,
@@ -397,6 +403,7 @@ impl<W: Write> Printer<W> {
 #[cfg(test)]
 mod tests {
     use super::*;
+    use std::cmp::Ordering;
 
     const HEAD: &str =
         "units faults losses day quorum\n4 1 0 7 3\nact unit sender number signers body\n";
@@ -592,12 +599,44 @@ sender number units percent
         assert!(text.ends_with("16 A 3 announced 0 1\n17 A 3 refused 25 0\n"));
     }
 
+    /// The last rows of a run of `n` nodes, of which the last `delivering` deliver the only slot; the sender is the first.
+    fn last_rows(delivering: usize, n: usize) -> String {
+        let table = format!("{n} 0 0 7 {n}");
+        let mut text = HEAD.replace("4 1 0 7 3", &table) + &format!("A 0 - - - {BODY}\n");
+        for node in n - delivering..n {
+            // All but the node's own bit, which it accepts in no bundle before it has signed: only the sender has.
+            let signers = ((1_u64 << n) - 1) & !(1 << node) | 1;
+            text += &format!("B {node} 0 0 {signers:016x} {BODY}\n");
+        }
+        let printed = played(text);
+        let (_, rows) = printed.split_once("sender number units percent\n").unwrap();
+        rows.to_owned()
+    }
+
     #[test]
-    fn percent_drops_the_fraction() {
-        let row = |node| format!("B {node} 0 15 0000000000000003 {BODY}\n");
-        let head = HEAD.replace("4 1 0 7 3", "3 0 0 7 2");
-        let text = played(format!("{head}{}", row(2)));
-        assert!(text.ends_with("1 B 2 delivered 0 3\nsender number units percent\n0 15 1 33\n"));
+    fn percent_is_rounded_to_the_nearest_and_a_half_to_the_even_one() {
+        let three = [33, 67, 100];
+        let eight = [12, 25, 38, 50, 62, 75, 88, 100];
+        for (n, percents) in [(3, &three[..]), (8, &eight)] {
+            for (nodes, percent) in (1..=n).zip(percents) {
+                assert_eq!(last_rows(nodes, n), format!("0 0 {nodes} {percent}\n"));
+            }
+            assert_eq!(last_rows(0, n), "", "a slot that nobody delivers");
+        }
+    }
+
+    #[test]
+    fn percent_is_the_only_number_that_the_norm_allows() {
+        for (n, nodes) in (1..=255_usize).flat_map(|n| (0..=n).map(move |nodes| (n, nodes))) {
+            // How far p is from the quotient, compared with a half: both sides are times 2n, so that nothing is rounded here.
+            let allowed = |p: &usize| match (2 * (100 * nodes).abs_diff(p * n)).cmp(&n) {
+                Ordering::Less => true,
+                Ordering::Equal => p.is_multiple_of(2),
+                Ordering::Greater => false,
+            };
+            let allowed: Vec<_> = (0..=100).filter(allowed).collect();
+            assert_eq!(allowed, [percent(nodes, n)], "{nodes} of {n}");
+        }
     }
 
     /// Gives its bytes one at a time, with interruptions, and then fails.

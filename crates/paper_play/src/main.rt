@@ -171,7 +171,7 @@ fn count(sender: u8, seq: u8, records0: &[u8], records1: &[u8], records2: &[u8],
     }
 }
 
-// A slot, how many nodes delivered it, and their share of the four in whole percent.
+// A slot, how many nodes delivered it, and how many percent of the four: quarters, so that nothing is rounded (R16.8).
 fn slot_row(sender: u8, seq: u8, nodes: u64)
     requires { ⌜ nodes ≤ 4 ⌝ }
 {

@@ -15,7 +15,8 @@ use Rattle.config.specs.Config.{slots}
 use Rattle.text.specs.Text.{ascii, decimal, written}
 use Rattle.text.proofs.DecimalDigits.{decimal-short}
 use Rattle.text.proofs.WriteLaws.{written-empty, written-then, length-written}
-use Rattle.summary.specs.Summary.{rising, percent, slotText, senderText, slotsText, summaryText, slotSpace, summarySpace, summaryFits, summaryOver, summaryEnd}
+use Rattle.summary.specs.DisplayNorm.{percent}
+use Rattle.summary.specs.Summary.{rising, slotText, senderText, slotsText, summaryText, slotSpace, summarySpace, summaryFits, summaryOver, summaryEnd}
 
 -- ---- one row
 

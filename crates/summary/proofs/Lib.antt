@@ -1,2 +1,3 @@
--- The laws of the last rows: how long they are, and how they are written one after the other.
+-- The laws of the last rows: the display norm, how long the rows are, and how they are written one after the other.
 pub mod LastRows
+pub mod DisplayNorm

@@ -1,2 +1,3 @@
 -- What the contracts of this crate and of those above it cite.
+pub mod DisplayNorm
 pub mod Summary

@@ -2,7 +2,7 @@
 -- Assumes nothing.
 use mathlib.Core.Bool.{Bool, true, false, cond}
 use mathlib.Core.List.{List, [], _++_}
-use Prim.Native.Nat.{ℕ, zero, suc, _+_, _*_, _/_}
+use Prim.Native.Nat.{ℕ, zero, suc, _+_, _*_}
 use lib.Dec.{leb, eqb}
 use lib.ListN.{length}
 use Rattle.signers.specs.Sets.{count}
@@ -12,6 +12,7 @@ use Rattle.config.specs.Config.{slots, withOwn, slotOfDay}
 use Rattle.calls.specs.Showing.{delivered}
 use Rattle.text.specs.Text.{ascii, decimal, written}
 use Rattle.nodes.specs.Nodes.{playedNodes, recordsAt}
+use Rattle.summary.specs.DisplayNorm.{percent}
 
 -- R16.1: the names line above the rows
 abbrev pub slotNames : List ℕ
@@ -21,10 +22,6 @@ slotNames = ascii "sender number units percent\n"
 unfoldable pub rising : (f : ℕ → List ℕ) (n : ℕ) → List ℕ
 rising f zero = []
 rising f (suc n) = rising f n ++ f n
-
--- R16.4: how many hundredths of n nodes so many are, cut to a whole number
-unfoldable pub percent : (n delivered : ℕ) → ℕ
-percent n delivered = 100 * delivered / n
 
 -- R16.4: the row of a slot that some node has delivered, and none for any other slot
 unfoldable pub slotText : (n sender seq delivered : ℕ) → List ℕ

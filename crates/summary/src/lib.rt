@@ -11,7 +11,8 @@ ghost use lib.ListN.{length};
 ghost use Rattle.config.specs.Config.{slots};
 ghost use Rattle.text.specs.Text.{written};
 ghost use Rattle.nodes.specs.Nodes.{recordsSpace};
-ghost use Rattle.summary.specs.Summary.{percent as percentOf, slotText, senderText, slotsText, summaryText, shownCount, slotSpace, summaryOver, summaryEnd};
+ghost use Rattle.summary.specs.DisplayNorm.{percent as percentOf};
+ghost use Rattle.summary.specs.Summary.{slotText, senderText, slotsText, summaryText, shownCount, slotSpace, summaryOver, summaryEnd};
 
 // Room for any of the rows: four numbers of at most twenty digits, with a byte after each.
 const ROW_SPACE: usize = 84;
@@ -19,14 +20,28 @@ const ROW_SPACE: usize = 84;
 // Room for the names line and for the rows of as many senders as a byte can count.
 pub const SPACE: usize = 28 + ROW_SPACE * (SLOTS as usize) * 256;
 
-// The percent of n nodes that so many are, cut to a whole number (R16.4); 0 of none.
+// The whole percent nearest to `delivered` of n nodes, half way between two the even one (R16.8); 0 where n is 0
+// (R16.10). Hundredths are those of a node.
 pub fn percent(n: u8, delivered: u8) -> u64
     ensures { λ r. ⌜ r ≡ percentOf n delivered ⌝ }
 {
     if n == 0 {
         return 0;
     }
-    100 * (delivered as u64) / (n as u64)
+    let all = n as u64;
+    let hundredths = 100 * (delivered as u64);
+    let whole = hundredths / all;
+    let twice_rest = 2 * (hundredths % all);
+    if twice_rest < all {
+        return whole;
+    }
+    if twice_rest > all {
+        return whole + 1;
+    }
+    if whole % 2 == 0 {
+        return whole;
+    }
+    whole + 1
 }
 
 // Prints the names line (R16.1) and the rows over `out` from index `at` on, and answers where they end. A

@@ -69,15 +69,16 @@ fn run(random: &mut Random) -> Vec<Vec<u8>> {
         text += &row(&mut system, speaker, random);
         text += "\n";
     }
-    if random.once_in(2) {
-        text += &to_all(&mut system, random);
+    for _ in 0..random.below(12) {
+        text += &to_some(&mut system, random);
     }
     let lines = text.as_bytes().split(|&byte| byte == b'\n');
     lines.map(<[u8]>::to_vec).collect()
 }
 
 fn config(random: &mut Random) -> Config {
-    let n = 1 + random.below(8) as u8;
+    // Eight more often: only of so many can a percent be a half.
+    let n = 8.min(1 + random.below(10)) as u8;
     // With units that faults and losses do not need there is more than one quorum.
     let needed = n - [0, 3][random.below(2)].min(n - 1);
     let t = random.below(usize::from(needed - 1) / 3 + 1) as u8;
@@ -132,22 +133,25 @@ fn row(system: &mut System, speaker: Option<u8>, random: &mut Random) -> String 
     }
 }
 
-/// Rows that bring some bundle to every node, and then what all have signed of it.
-fn to_all(system: &mut System, random: &mut Random) -> String {
-    let mut text = String::new();
-    if system.sent.is_empty() {
-        return text;
-    }
-    let sent = system.sent[random.below(system.sent.len())];
-    for full in [false, true] {
-        for node in 0..system.config.n {
-            let bundle = match full {
-                true => with_all_signers(system, sent),
-                false => sent,
-            };
-            text += &system.receive(node, bundle);
-            text += "\n";
-        }
+/// Rows that bring a new announcement, or now and then an older bundle, to every node, and then what all have signed of it to some of them. The
+/// other rows alone would seldom have a slot delivered by most nodes but not by all.
+fn to_some(system: &mut System, random: &mut Random) -> String {
+    let n = system.config.n;
+    let first = random.below(n.into()) as u8;
+    let some = 1 + random.below(n.into()) as u8;
+    let mut text = system.broadcast(first, payload(random)) + "\n";
+    let older = match random.once_in(4) {
+        true => random.below(system.sent.len()),
+        false => 0,
+    };
+    let sent = system.sent[system.sent.len() - 1 - older];
+    for place in 0..n + some {
+        let bundle = match place < n {
+            true => sent,
+            false => with_all_signers(system, sent),
+        };
+        text += &system.receive((first + place) % n, bundle);
+        text += "\n";
     }
     text
 }

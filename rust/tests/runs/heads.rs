@@ -90,6 +90,13 @@ impl Head {
     }
 }
 
+/// How many nodes the run of a file with a good table has: one digit tells.
+pub fn nodes_of(file: &[u8]) -> usize {
+    let table = file.split(|&byte| byte == b'\n').nth(1);
+    let digit = table.and_then(|table| table.first()).expect("a table");
+    usize::from(digit - b'0')
+}
+
 /// The numbers of a table row, if all of them are plain and none has more digits than 128 bits have room for.
 pub fn numbers(row: &str) -> Option<Vec<u128>> {
     let number = |field: &str| {

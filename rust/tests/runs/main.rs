@@ -1,4 +1,5 @@
-//! The proved run program beside the Rust player: the same bytes from both, on run files made from a seed, whole and damaged.
+//! The proved run program beside the Rust player: the same bytes from both, on run files made from a seed, whole and damaged, and on some
+//! that print every percent.
 //!
 //! `MBRB_RUNS` sets how many files, `MBRB_SEED` another seed, both decimal; `MBRB_PLAY` names another program. With fewer than three
 //! thousand files something may be too rare, and the test fails for that.
@@ -6,6 +7,7 @@
 mod damage;
 mod files;
 mod heads;
+mod percents;
 mod program;
 mod tally;
 mod wrong;
@@ -13,6 +15,7 @@ mod wrong;
 use files::{file, Made};
 use mbrb::{player, program_under_test, setting};
 use program::Program;
+use std::collections::BTreeSet;
 use tally::Tally;
 
 const RUNS: u64 = 4_000;
@@ -53,6 +56,26 @@ fn the_program_prints_what_the_player_prints() {
     program.remove_folder();
     println!("{tally}");
     tally.assert_complete(runs / 100);
+}
+
+#[test]
+fn the_program_prints_every_percent() {
+    let program = Program::new(program_under_test());
+    let text = |bytes| String::from_utf8(bytes).expect("only letters and digits are printed");
+    let mut seen = BTreeSet::new();
+    for n in 1..=8 {
+        let made = percents::run(n);
+        let output = text(program.run(&made));
+        assert_eq!(output, text(expected(&made.bytes)));
+        seen.extend(percents::printed(&made.bytes, &output));
+    }
+    program.remove_folder();
+    assert_eq!(seen, percents::shares().collect());
+    assert_eq!(
+        seen.len(),
+        36,
+        "one for each number of units and deliveries"
+    );
 }
 
 #[test]

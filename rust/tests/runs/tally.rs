@@ -1,12 +1,14 @@
 //! How often each thing was seen that a run can print or have.
 
 use crate::files::{Feed, Made};
-use crate::heads::{Head, HEADS};
+use crate::heads::{nodes_of, Head, HEADS};
+use crate::percents::{share, shares};
 use std::collections::BTreeMap;
 use std::fmt;
 
-/// Besides, each refusal that can occur in a run: its tables, days, lengths and records are always right.
-const WORDS: [&str; 7] = [
+/// Besides, each refusal that can occur in a run: its tables, days, lengths and records are always right. And each percent, by the number of
+/// nodes and of those that delivered.
+const WORDS: [&str; 8] = [
     "announced 0",
     "kept 0",
     "signed 0",
@@ -14,20 +16,9 @@ const WORDS: [&str; 7] = [
     "unread 0",
     "no table",
     "over-long row",
-];
-const REFUSALS: [u32; 8] = [5, 6, 7, 8, 22, 23, 24, 25];
-/// The last rows, by how many nodes delivered; fed through a pipe.
-const OTHERS: [&str; 9] = [
-    "1 units",
-    "2 units",
-    "3 units",
-    "4 units",
-    "5 units",
-    "6 units",
-    "7 units",
-    "8 units",
     "fed in pieces",
 ];
+const REFUSALS: [u32; 8] = [5, 6, 7, 8, 22, 23, 24, 25];
 
 #[derive(Default)]
 pub struct Tally {
@@ -47,7 +38,7 @@ impl Tally {
         for line in output.lines().filter(|line| !names(line)) {
             match line.split(' ').collect::<Vec<_>>()[..] {
                 [_, _, _, word, reason, _] => self.add(format!("{word} {reason}")),
-                [_, _, nodes, _] => self.add(format!("{nodes} units")),
+                [_, _, nodes, percent] => self.add(share(nodes, nodes_of(&made.bytes), percent)),
                 _ => self.add(line.to_owned()),
             }
         }
@@ -70,8 +61,9 @@ impl Tally {
     /// Fails if something that can occur was seen less than `least` times, or if something was seen that cannot occur.
     pub fn assert_complete(&self, least: u64) {
         let mut others = self.seen.clone();
-        let words = WORDS.into_iter().chain(OTHERS).map(str::to_owned);
-        for key in words.chain(REFUSALS.map(|number| format!("refused {number}"))) {
+        let words = WORDS.into_iter().map(str::to_owned);
+        let refusals = REFUSALS.map(|number| format!("refused {number}"));
+        for key in words.chain(refusals).chain(shares()) {
             let count = others.remove(&key).unwrap_or(0);
             assert!(count >= least, "{key}: {count}, not {least}");
         }

@@ -1,17 +1,32 @@
 //! Players that are the right one but for one thing, made by changing what it gets or what it prints: the comparison has to find each.
 
 use crate::expected;
-use crate::heads::{numbers, quorums, NAMES, NAMES_WITHOUT_QUORUM};
+use crate::heads::{nodes_of, numbers, quorums, NAMES, NAMES_WITHOUT_QUORUM};
+use crate::percents::PERCENTS;
 
 type Player = fn(&[u8]) -> Vec<u8>;
 
-pub const PLAYERS: [(&str, Player); 26] = [
+pub const PLAYERS: [(&str, Player); 30] = [
     ("percent rounded up", |input| {
-        let percent_of = |nodes: usize, n: usize| (100 * nodes).div_ceil(n);
-        with_last_rows(input, percent_of)
+        with_last_rows(input, |nodes, n| (100 * nodes).div_ceil(n))
+    }),
+    ("the fraction dropped", |input| {
+        with_last_rows(input, |nodes, n| 100 * nodes / n)
+    }),
+    ("a half up", |input| {
+        with_last_rows(input, |nodes, n| nearest(nodes, n)[1])
+    }),
+    ("a half down", |input| {
+        with_last_rows(input, |nodes, n| nearest(nodes, n)[0])
+    }),
+    ("a half to the odd neighbour", |input| {
+        with_last_rows(input, |nodes, n| match nearest(nodes, n) {
+            [down, _] if down % 2 == 1 => down,
+            [_, up] => up,
+        })
     }),
     ("percent of 8 always", |input| {
-        with_last_rows(input, |nodes, _| 100 * nodes / 8)
+        with_last_rows(input, |nodes, _| PERCENTS[8 - 1][nodes - 1])
     }),
     ("an unread row has no place", |input| {
         let mut place = 0;
@@ -235,14 +250,17 @@ fn edit_answers(input: &[u8], mut edit: impl FnMut(&mut [String])) -> Vec<u8> {
 }
 
 fn with_last_rows(input: &[u8], percent: impl Fn(usize, usize) -> usize) -> Vec<u8> {
-    let table = input.split(|&byte| byte == b'\n').nth(1).unwrap_or(b"");
-    let n = usize::from(table.first().unwrap_or(&0).wrapping_sub(b'0'));
     edit_printed(input, |fields| {
         if fields.len() == 4 && fields[0] != "sender" {
             let nodes = fields[2].parse().expect("a count");
-            fields[3] = percent(nodes, n).to_string();
+            fields[3] = percent(nodes, nodes_of(input)).to_string();
         }
     })
+}
+
+/// The whole percents that are nearest: the lower and the upper one of two, or one twice.
+fn nearest(nodes: usize, n: usize) -> [usize; 2] {
+    [n - 1, n].map(|half| (2 * 100 * nodes + half) / (2 * n))
 }
 
 fn edit_printed(input: &[u8], mut edit: impl FnMut(&mut [String])) -> Vec<u8> {
