@@ -3,14 +3,14 @@
 use mathlib.Core.Path.{_≡_, refl, sym, ap, ap₂, _∙_, subst}
 use mathlib.Core.Bool.{Bool, true, false, _&&_, and-assoc, and-eq-true-iff, true≢false}
 use mathlib.Core.List.{List, [], _∷_, _++_}
-use Prim.Native.Nat.{ℕ, zero, suc, _^_, _<_}
-use native.Mathlib.Nat.{zero-div, zero-mod}
+use Prim.Native.Nat.{ℕ, zero, suc, _/_, _%_, _^_, _<_}
+use native.Mathlib.Nat.{zero-div, zero-mod, div-add-mod', mod-lt}
 use native.Mathlib.Omega.{arith}
 use lib.Dec.{eqb}
 use lib.ListN.{length, replicate, length-replicate}
 use borrow.Author.Tests.{eqb-true, eq-eqb}
 use Rattle.octets.specs.Octets.{same, blank, number, bytesOf}
-use Rattle.octets.proofs.Numbers.{base-pos, number-bytesOf, length-bytesOf}
+use Rattle.octets.proofs.Numbers.{base-pos, number-bytesOf, length-bytesOf, bytesOf-low}
 
 -- lists that pass the test are equal,
 pub same-says : (xs ys : List ℕ) → same xs ys ≡ true → xs ≡ ys
@@ -85,3 +85,9 @@ zero-bytes (suc k) = rw (zero-div, zero-mod, zero-bytes k)
 -- and a number that fits is zero where its bytes are blank
 pub blank-bytesOf : (k x : ℕ) → x < 256 ^ k → blank (bytesOf k x) ≡ eqb x 0
 blank-bytesOf k x h = rw (length-bytesOf k x, zero-bytes k) (same-bytesOf k x 0 h (base-pos k))
+
+-- so the k low bytes of any number are blank where what they write is zero
+pub blank-low : (k x : ℕ) → blank (bytesOf k x) ≡ eqb (x % 256 ^ k) 0
+blank-low k x =
+    ap blank (ap (bytesOf k) (sym (div-add-mod' x (256 ^ k))) ∙ bytesOf-low k (x / 256 ^ k) (x % 256 ^ k))
+    ∙ blank-bytesOf k (x % 256 ^ k) (mod-lt x {m = 256 ^ k} (base-pos k))

@@ -5,16 +5,16 @@ use mathlib.Core.Path.{_≡_, refl, sym, ap, ap₂, _∙_}
 use mathlib.Core.Bool.{Bool, true, false, _&&_}
 use mathlib.Core.List.{List, _++_}
 use Prim.Native.Nat.{ℕ, _+_, _*_, _/_, _%_, _^_, _<_}
-use native.Mathlib.Nat.{mod-eq-of-lt, mod-lt}
+use native.Mathlib.Nat.{mod-eq-of-lt}
 use native.Mathlib.Omega.{arith}
-use lib.Dec.{eqb, ltb, lit<}
+use lib.Dec.{eqb, ltb}
 use lib.ListN.{length, drop, length-drop, take-append-drop}
 use lib.Seq.{drop-drop, take-all}
 use borrow.Author.Tests.{eq-eqb, ne-eqb, eqb-true, eqb-false, ltb-true, ltb-false}
 use Rattle.octets.specs.Octets.{Bytes, bytesOf, blank, part, wordOf}
-use Rattle.octets.proofs.Numbers.{length-part, number-bytesOf, bytesOf-low}
+use Rattle.octets.proofs.Numbers.{length-part, number-bytesOf}
 use Rattle.octets.proofs.WordRead.{word-bytes}
-use Rattle.octets.proofs.Same.{blank-append, blank-bytesOf}
+use Rattle.octets.proofs.Same.{blank-append, blank-bytesOf, blank-low}
 use Rattle.payload.specs.declared.Payload.{Payload}
 use Rattle.payload.specs.Payload as payload
 use Rattle.payload.proofs.Laws as payload-laws
@@ -70,13 +70,6 @@ delivered-bytes signers p = refl
 abbrev pub top : ℕ
 top = 0x100_0000_0000_0000
 
--- the bytes after the first are zero where nothing is left of the first word without it
-blank-rest : (head : ℕ) → blank (bytesOf 7 head) ≡ eqb (head % top) 0
-blank-rest head =
-    let split : head / top * top + head % top ≡ head = omega arith in
-    ap blank (ap (bytesOf 7) (sym split) ∙ bytesOf-low 7 (head / top) (head % top))
-    ∙ blank-bytesOf 7 (head % top) (omega (arith, mod-lt head {m = top} (lit< tt)))
-
 module _ (r : Record) (f : Fits r) where
   -- the state is the first byte, and seven bytes follow it
   pub state-words : stateField (bytes r) ≡ r .head / top
@@ -85,7 +78,7 @@ module _ (r : Record) (f : Fits r) where
 
   pub rest-words : blank (part 1 7 (bytes r)) ≡ eqb (r .head % top) 0
   unfolding bytes bytesOf
-  rest-words = blank-rest (r .head)
+  rest-words = blank-low 7 (r .head)
 
   pub signers-words : signersField (bytes r) ≡ r .signers
   unfolding bytes bytesOf

@@ -22,6 +22,7 @@ pub enum Refusal {
     OtherPayload,
     NoFreeSlot,
     NotDelivered,
+    TooFewSetpoints,
 }
 
 // The answer of a call that has nothing to tell where it did its work.
@@ -52,5 +53,6 @@ pub fn number(reason: Refusal) -> u32
         Refusal::OtherPayload => 24,
         Refusal::NoFreeSlot => 25,
         Refusal::NotDelivered => 26,
+        Refusal::TooFewSetpoints => 27,
     }
 }

@@ -1,5 +1,5 @@
 -- `announcement_code` meets its contract. Assumes nothing.
-use mathlib.Core.Path.{sym, ap}
+use mathlib.Core.Path.{sym, ap, _∙_}
 use Rattle.calls.specs.Broadcast.{announcementOf}
 use Rattle.mbrb.specs.Code.{announcedCode}
 use borrow.Author.Needs.{needs}
@@ -26,7 +26,7 @@ returns : tie.Need-returns
 returns c = sym (ap (λ a. announcedCode (announcementOf a)) (c .before .announcement .given .1))
 
 returns-2 : tie.Need-returns-2
-returns-2 c = search needs
+returns-2 c = c .number .ensures ∙ sym (ap (λ a. announcedCode (announcementOf a)) (c .before .before .announcement2 .given .1))
 
 pub announcement-code-spec : {M : Type 1} → statement M
 announcement-code-spec =

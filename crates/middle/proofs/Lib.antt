@@ -1,0 +1,4 @@
+-- The laws of this crate.
+pub mod Sorting
+pub mod Middle
+pub mod Room

@@ -1,0 +1,110 @@
+-- The outcome lies between setpoints of correct senders, since more than t senders are pooled with a value at most it, and more than t with one at least it.
+-- Assumes nothing.
+use mathlib.Core.Path.{_≡_, refl, sym, ap, _∙_}
+use mathlib.Core.Bool.{Bool, true, false, cond, _&&_}
+use mathlib.Core.List.{List, [], _∷_, _++_}
+use mathlib.Core.Logic.{_⊎_, inl, inr, ⊎-elim}
+use Prim.Native.Nat.{ℕ, zero, suc, _+_, _*_, _≤_, _<_}
+use native.Mathlib.Omega.{arith}
+use lib.Dec.{ltb}
+use lib.IntN.{ℤ}
+use lib.ListN.{length, take}
+use lib.Signed.{leZ}
+use borrow.Author.Tests.{ltb-true, ltb-false}
+use Rattle.signers.specs.Sets.{NodeSet, indicator, count, both}
+use Rattle.signers.proofs.Counting.{some-correct}
+use Rattle.refusal.specs.Outcome.{done}
+use Rattle.refusal.proofs.Reasons.{done-clear}
+use Rattle.config.specs.declared.Config.{Config}
+use Rattle.config.specs.Config.{slots}
+use Rattle.middle.specs.Middle.{lowerMiddle}
+use Rattle.middle.specs.Sorting.{countIf}
+use Rattle.middle.proofs.Sorting.{count-append}
+use Rattle.middle.proofs.Middle.{middle-divides}
+use Rattle.pool.specs.Pool.{deliveredSetpoints, latest, pooled, pool, setpointReasons, setpoint}
+use Rattle.pool.specs.Between.{isPooled, PooledFrom, OutcomeBetween}
+
+-- ---- the pool, by its senders
+
+module _ (config : Config) (records : List ℕ) where
+  -- a sender has one value in it, or none
+  latest-one : (sender : ℕ) → (latest config records sender ≡ []) ⊎ ((value : ℤ) × (latest config records sender ≡ value ∷ []))
+  unfolding latest
+  latest-one sender = go (deliveredSetpoints config records sender slots)
+    where
+      go : (xs : List ℤ) → (take 1 xs ≡ []) ⊎ ((value : ℤ) × (take 1 xs ≡ value ∷ []))
+      go [] = inl refl
+      go (x ∷ xs) = inr (x, refl)
+
+  -- the senders whose value passes a test
+  passes : (ℤ → Bool) → NodeSet
+  passes test sender = ltb 0 (countIf test (latest config records sender))
+
+  passes-says : (test : ℤ → Bool) (sender : ℕ) → passes test sender ≡ true
+      → (value : ℤ) × (latest config records sender ≡ value ∷ []) × (test value ≡ true)
+  unfolding passes countIf
+  passes-says test sender p =
+      ⊎-elim
+      (λ none. absurd (let z : countIf test (latest config records sender) ≡ 0 = ap (countIf test) none in omega (arith, some)))
+      (λ one. (one .0, one .1, go (one .0) (test (one .0)) refl some (ap (countIf test) (one .1))))
+      (latest-one sender)
+    where
+      some : 0 < countIf test (latest config records sender)
+      some = ltb-true 0 (countIf test (latest config records sender)) p
+
+      go : (value : ℤ) (m : Bool) → test value ≡ m → 0 < countIf test (latest config records sender)
+          → countIf test (latest config records sender) ≡ cond m 1 0 → m ≡ true
+      go value true q h e = refl
+      go value false q h e = absurd (omega arith)
+
+  one-counts : (test : ℤ → Bool) (sender : ℕ) → countIf test (latest config records sender) ≡ indicator (passes test sender)
+  unfolding passes countIf
+  one-counts test sender =
+      ⊎-elim (λ none. rw none) (λ one. rw (one .1) (go (test (one .0)))) (latest-one sender)
+    where
+      go : (m : Bool) → cond m 1 0 ≡ indicator (ltb 0 (cond m 1 0))
+      go true = refl
+      go false = refl
+
+  -- as many values of the pool pass it as there are such senders
+  pool-counts : (test : ℤ → Bool) (senders : ℕ) → countIf test (pooled config records senders) ≡ count (passes test) senders
+  unfolding pooled count countIf
+  pool-counts test zero = refl
+  pool-counts test (suc sender) =
+      let more = count-append test (pooled config records sender) (latest config records sender) in
+      let rest = pool-counts test sender in
+      let one = one-counts test sender in
+      omega arith
+
+  -- a sender whose value passes a test is pooled
+  passes-pooled : (test : ℤ → Bool) (sender : ℕ) → passes test sender ≡ true → isPooled config records sender ≡ true
+  unfolding isPooled
+  passes-pooled test sender p = let one = passes-says test sender p in rw (one .1)
+
+  -- among more than t senders whose value passes a test there is a correct one
+  correct-passes : (faulty : NodeSet) (test : ℤ → Bool) → count (both faulty (isPooled config records)) (config .n) ≤ config .t
+      → config .t < countIf test (pool config records)
+      → (value : ℤ) × PooledFrom config records faulty value × (test value ≡ true)
+  unfolding pool
+  correct-passes faulty test few many =
+      let found = some-correct (passes test) (both faulty (isPooled config records)) (config .n) (config .t) few (omega (arith, pool-counts test (config .n))) in
+      let one = passes-says test (found .0) (found .2) in
+      let correct = go (faulty (found .0)) (isPooled config records (found .0)) (found .3) (passes-pooled test (found .0) (found .2)) in
+      (one .0, record { sender = found .0; below = found .1; correct = correct; pooled = one .1 }, one .2)
+    where
+      go : (m k : Bool) → (m && k) ≡ false → k ≡ true → m ≡ false
+      go true k e h = sym h ∙ e
+      go false k e h = refl
+
+pub outcome-between : OutcomeBetween
+unfolding setpoint setpointReasons
+outcome-between config records faulty outcome few is =
+    let clear = done-clear (setpointReasons config records) (lowerMiddle (pool config records)) outcome is in
+    let enough = ltb-false (length (pool config records)) (2 * config .t + 1) (clear .0 .1 .1 .1 .0) in
+    let divided = middle-divides (pool config records) (omega arith) in
+    let middle : lowerMiddle (pool config records) ≡ outcome = clear .1 in
+    let low = divided .0 in
+    let high = divided .1 in (
+      correct-passes config records faulty (λ x. leZ x outcome) few (rw (sym middle) (omega arith)),
+      correct-passes config records faulty (λ x. leZ outcome x) few (rw (sym middle) (omega arith)),
+    )

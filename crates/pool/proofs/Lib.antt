@@ -1,0 +1,4 @@
+-- The laws of this crate.
+pub mod Pool
+pub mod Between
+pub mod Range

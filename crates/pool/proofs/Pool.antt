@@ -1,0 +1,126 @@
+-- What is pooled, by the records: the setpoint that a record holds, one record more of a sender, one sender more; and the refusals of the call.
+-- Assumes nothing.
+use mathlib.Core.Path.{_≡_, refl, sym, ap, _∙_}
+use mathlib.Core.Bool.{Bool, true, false, cond, not, _&&_, true≢false}
+use mathlib.Core.List.{List, [], _∷_, _++_}
+use Prim.Native.Nat.{ℕ, zero, suc, _+_, _*_, _≤_, _<_}
+use native.Mathlib.Numerals.{add-one}
+use native.Mathlib.Omega.{arith}
+use lib.Dec.{ltb, eqb, lit≤}
+use lib.IntN.{ℤ}
+use lib.ListN.{length, take}
+use borrow.Author.Tests.{eq-eqb, ne-eqb, lt-ltb, le-ltb, ltb-true, ltb-false}
+use Rattle.octets.specs.Octets.{part}
+use Rattle.octets.proofs.Numbers.{part-part}
+use Rattle.refusal.specs.Outcome.{Outcome, refused, done}
+use Rattle.refusal.proofs.Reasons.{passed, failed, pass, stop, clear-done}
+use Rattle.payload.specs.Payload.{payloadSize}
+use Rattle.config.specs.declared.Config.{Config}
+use Rattle.config.specs.declared.Slot.{Slot}
+use Rattle.config.specs.Config.{good, slots, slotOfDay, inRange, place, recordSize, recordsSize}
+use Rattle.config.proofs.Laws.{in-range}
+use Rattle.protocol.specs.Update.{isDelivered}
+use Rattle.record.specs.Record.{decoded, wellFormed, payloadAt, payloadField}
+use Rattle.calls.specs.Records.{recordAt}
+use Rattle.calls.specs.Showing.{delivered, deliveredPart}
+use Rattle.calls.proofs.Refusals.{delivered-not, delivered-done}
+use Rattle.setpoint.specs.Setpoint.{setpointIn, isSetpoint}
+use Rattle.middle.specs.Middle.{lowerMiddle}
+use Rattle.pool.specs.Pool.{everyBelow, deliveredSetpoint, deliveredSetpoints, latest, pooled, pool, slotWellFormed, senderWellFormed, allWellFormed, setpointReasons, setpoint}
+use Rattle.pool.specs.Inner.{foundIn}
+
+-- ---- every number below n
+
+pub every-next : (n : ℕ) (test : ℕ → Bool) → everyBelow n test ≡ true → test n ≡ true → everyBelow (n + 1) test ≡ true
+unfolding everyBelow
+every-next n test below here = rw (add-one n, here) below
+
+pub every-fails : (n k : ℕ) (test : ℕ → Bool) → k < n → test k ≡ false → everyBelow n test ≡ false
+unfolding everyBelow
+every-fails zero k test h fails = absurd (omega arith)
+every-fails (suc n) k test h fails = go (test n) refl (ltb k n) refl (every-fails n k test)
+  where
+    go : (m : Bool) → test n ≡ m → (less : Bool) → ltb k n ≡ less → (k < n → test k ≡ false → everyBelow n test ≡ false) → (m && everyBelow n test) ≡ false
+    go false p less q rest = refl
+    go true p true q rest = rest (ltb-true k n q) fails
+    go true p false q rest =
+        let last : k ≡ n = omega (arith, ltb-false k n q) in
+        absurd (true≢false (sym p ∙ (ap test (sym last) ∙ fails)))
+
+-- ---- a sender's records, one by one
+
+-- no payload says no setpoint
+none-said : setpointIn [] ≡ []
+unfolding setpointIn isSetpoint
+none-said = refl
+
+module _ (config : Config) (records : List ℕ) (g : good config ≡ true) (sized : length records ≡ recordsSize config) (sender : ℕ) (s : sender < config .n) where
+  module _ (seq : ℕ) (k : seq < slots) (formed : slotWellFormed config records sender seq ≡ true) where
+    abbrev slot : Slot
+    slot = slotOfDay config sender seq
+
+    abbrev bytes : List ℕ
+    bytes = recordAt config slot records
+
+    -- what showing gives of it is the payload of its record, if that is delivered
+    shown : (m : Bool) → isDelivered (decoded bytes) ≡ m → deliveredPart config slot records ≡ cond m (payloadField bytes) []
+    unfolding deliveredPart slotOfDay slotWellFormed recordAt
+    shown true d =
+        rw (delivered-done config slot records g s k sized formed d)
+        (sym (part-part payloadAt payloadSize (place config slot) recordSize records (lit≤ tt)))
+    shown false d = rw (delivered-not config slot records g s k sized formed d)
+
+    pub slot-setpoint : deliveredSetpoint config records sender seq ≡ cond (isDelivered (decoded bytes)) (setpointIn (payloadField bytes)) []
+    unfolding deliveredSetpoint
+    slot-setpoint = ap setpointIn (shown (isDelivered (decoded bytes)) refl) ∙ go (isDelivered (decoded bytes))
+      where
+        go : (m : Bool) → setpointIn (cond m (payloadField bytes) []) ≡ cond m (setpointIn (payloadField bytes)) []
+        go true = refl
+        go false = none-said
+
+  -- the latest setpoint with one record more: the one in it, or else the one before
+  pub latest-found : (seq : ℕ) (value : ℤ) → deliveredSetpoint config records sender seq ≡ value ∷ []
+      → foundIn true value ≡ take 1 (deliveredSetpoints config records sender (seq + 1))
+  unfolding deliveredSetpoints
+  latest-found seq value is = rw (add-one seq, is)
+
+  pub latest-stays : (seq : ℕ) → deliveredSetpoint config records sender seq ≡ []
+      → take 1 (deliveredSetpoints config records sender seq) ≡ take 1 (deliveredSetpoints config records sender (seq + 1))
+  unfolding deliveredSetpoints
+  latest-stays seq is = rw (add-one seq, is)
+
+-- ---- one sender more
+
+pub pooled-next : (config : Config) (records : List ℕ) (sender : ℕ) → pooled config records (sender + 1) ≡ pooled config records sender ++ latest config records sender
+unfolding pooled
+pooled-next config records sender = rw (add-one sender)
+
+-- ---- the refusals
+
+module _ (config : Config) (records : List ℕ) where
+  pub setpoint-bad : good config ≡ false → setpoint config records ≡ refused 1
+  unfolding setpoint setpointReasons
+  setpoint-bad g = stop 1 _ _ (failed g)
+
+  module _ (g : good config ≡ true) where
+    pub setpoint-size : (length records ≡ recordsSize config → ⊥) → setpoint config records ≡ refused 20
+    unfolding setpoint setpointReasons
+    setpoint-size r = pass 1 _ _ (passed g) ∙ stop 20 _ _ (failed (ne-eqb _ _ r))
+
+    module _ (r : length records ≡ recordsSize config) where
+      pub setpoint-malformed : allWellFormed config records ≡ false → setpoint config records ≡ refused 21
+      unfolding setpoint setpointReasons
+      setpoint-malformed f = pass 1 _ _ (passed g) ∙ pass 20 _ _ (passed (eq-eqb _ _ r)) ∙ stop 21 _ _ (failed f)
+
+      module _ (f : allWellFormed config records ≡ true) where
+        pub setpoint-few : length (pool config records) ≤ 2 * config .t → setpoint config records ≡ refused 27
+        unfolding setpoint setpointReasons
+        setpoint-few h =
+            pass 1 _ _ (passed g) ∙ pass 20 _ _ (passed (eq-eqb _ _ r)) ∙ pass 21 _ _ (passed f)
+            ∙ stop 27 _ _ (lt-ltb (length (pool config records)) (2 * config .t + 1) (omega arith))
+
+        pub setpoint-done : 2 * config .t < length (pool config records) → setpoint config records ≡ done (lowerMiddle (pool config records))
+        unfolding setpoint setpointReasons
+        setpoint-done h =
+            clear-done (setpointReasons config records) (lowerMiddle (pool config records))
+            (passed g, (passed (eq-eqb _ _ r), (passed f, (le-ltb (length (pool config records)) (2 * config .t + 1) (omega arith), tt))))

@@ -1,0 +1,3 @@
+-- What the contracts of this crate and of those above it cite, and what is claimed of it.
+pub mod Setpoint
+pub mod Examples
