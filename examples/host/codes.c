@@ -449,20 +449,21 @@ static void setpoints(void)
     deliver_setpoint(2, 3, -5);
     told_setpoint("since -5 comes late, and 2200 is newer", 2150, pool());
 
-    /* Passed over: another first byte, another last byte, another body, and a setpoint that is held. */
+    /* Passed over: another first byte, a fourth and a last byte that are not zero, and a setpoint that is held. Each has a higher number, and
+     * without any of the three senders there are too few. */
+    day_of("of 2150 2110 9500", 2150, 2110, 9500, 2150);
     bring_setpoint(0, 15, 1 | 4 | 8, -5);
     bundle[MBRB_BODY_AT] = 2;
     deliver(take());
-    bring_setpoint(2, 15, 1 | 4 | 8, -5);
+    bring_setpoint(2, 15, 1 | 4 | 8, 9000);
     bundle[MBRB_BODY_AT + 15] = 1;
     deliver(take());
-    bring(1 | 4 | 8, 'a');
-    bundle[MBRB_SENDER_AT] = 3;
-    bundle[MBRB_NUMBER_AT] = 15;
+    bring_setpoint(3, 15, 1 | 4 | 8, -5);
+    bundle[MBRB_BODY_AT + 3] = 1;
     deliver(take());
     bring_setpoint(0, 14, 1, -5);
-    take();
-    told_setpoint("and other bodies are passed over, and what is held", 2150, pool());
+    TOLD(MBRB_SIGNED, take());
+    told_setpoint("since other bodies are passed over, and what is held", 2150, pool());
     told_setpoint("on day 8 too, since the records do not hold their day", 2150, pool_by(of_day_8, RECORDS));
 
     day_of("hexadecimal fffb, of -2000 2150 -5", -2000, 2150, -5, -5);
