@@ -316,7 +316,7 @@
  *   - With more than t faulty senders in the pool it may be anything.
  *
  * When to ask: after each MBRB_DELIVERED, once that is saved (section 4), and after a restart (section 5, step 2),
- * since the block has the records and not the outcome. No other code changes it, but for an opening. The table is that
+ * since the block has the records and not the outcome. Nothing else changes it, but for an opening. The table is that
  * of the other calls: the block's day and quorum, under the lock (section 3). There is nothing to save and nothing to
  * send afterwards.
  *

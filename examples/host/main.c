@@ -109,6 +109,7 @@ static void stop_if_lost(struct unit *unit, uint32_t code)
     if (code == MBRB_UNSOUND_RECORD || code == MBRB_OWN_SIGNATURE_UNKNOWN) {
         unit->now = unit->saved; /* what is damaged is not saved */
         unit->now.stopped = true;
+        unit->now.to_send = false; /* it is silent from now on */
         save(unit);
     }
 }
