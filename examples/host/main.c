@@ -256,7 +256,7 @@ static void restart(struct unit *unit)
     send_if_due(unit);     /* 5. send what is still to be sent; 6. go on */
 }
 
-/* What is delivered stays in the records until the day is over, for a display. Firmware acts in act_on, and not on this. */
+/* What is delivered stays in the records until the day is over, for a display. Firmware acts in act_on and follow_setpoint, and not on this. */
 static void show(const struct unit *unit)
 {
     for (uint8_t sender = 0; sender < UNITS; sender++)
