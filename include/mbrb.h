@@ -6,8 +6,10 @@
  * deliver different bodies in one slot (a day, a sender, a number from 0 to 15), whatever faulty units send and
  * whatever is lost, late, twice or out of order. This is proved of lists of calls of mbrb_open, mbrb_broadcast and
  * mbrb_receive, with every code and byte that they give; section 9 says what is argued of hosts that keep to this page.
- * The fourth function, mbrb_preview, tells a display what taking a bundle would do, and does nothing of it. Every host
- * needs sections 1 to 8, in this order; 9 to 11 are to look up, and 12 is for a host with a display.
+ * Two more functions only read the records: mbrb_preview tells a display what taking a bundle would do, and does
+ * nothing of it; mbrb_setpoint finds one setpoint among those that the units have announced, so that a unit with
+ * swapped sensors does not drag the others along. Every host needs sections 1 to 8, in this order; 9 to 11 are to look
+ * up, 12 is for a host with a display, and 13 for one that acts on one setpoint of the whole cascade.
  *
  *
  * 1. Link it
@@ -31,7 +33,8 @@
  *      other code there is nothing to send.
  *   5. After MBRB_DELIVERED act on the body in `out`, before or after sending it. It comes once for each slot.
  * A code from 1 to 99 is a refusal: no byte has changed, and the number says why. Section 8 says what to do. A preview
- * is none of these steps, and comes between them as often as a display wants it (section 12).
+ * is none of these steps, and comes between them as often as a display wants it (section 12). To ask for the setpoint
+ * of the whole cascade is a part of acting, for a host that heats by it (section 13).
  *
  *
  * 3. The memory that a call is lent
@@ -39,12 +42,13 @@
  * - Each pointer has at least as many bytes behind it as the length beside it says, until the call is back. No pointer
  *   is null, not even one whose length is 0. Any alignment will do, and what `out` holds before does not matter.
  * - The buffers of a call do not overlap.
- * - Nobody else writes to them during the call, nor reads `out`, nor `records` if the call is no preview: no interrupt,
- *   no other core, no device.
+ * - Nobody else writes to them during the call, nor reads `out`, nor `records` unless the call is mbrb_preview or
+ *   mbrb_setpoint: no interrupt, no other core, no device.
  * - Calls on different records may run at once, since nothing is kept between calls. On the same records they come one
  *   after the other: a lock for two tasks spans the comparison of days (section 4), an opening, the call with the
- *   block's day, the saving, and the copying of `out`. It spans a preview too. Previews only read the records, so that
- *   several may run at once on the same ones, each with its own `out`, while no other call does.
+ *   block's day, the saving, and the copying of `out`. It spans mbrb_preview and mbrb_setpoint too. These two only read
+ *   the records, so that several of them may run at once on the same ones, each preview with its own `out`, while no
+ *   other call does.
  * A call is safe with all bytes, lengths and numbers that keep to this.
  *
  *
@@ -72,8 +76,8 @@
  * unit that was off for longer then needs somebody who confirms the date. A day is any number that only grows and that
  * all units share; it may stand for an hour.
  *
- * What to save. A refusal and a preview change no record. MBRB_KEPT, MBRB_SIGNED and MBRB_DELIVERED of mbrb_receive
- * change the 32 bytes at MBRB_RECORD_AT(sender, number), by the sender and number of the bundle taken.
+ * What to save. A refusal, mbrb_preview and mbrb_setpoint change no record. MBRB_KEPT, MBRB_SIGNED and MBRB_DELIVERED
+ * of mbrb_receive change the 32 bytes at MBRB_RECORD_AT(sender, number), by the sender and number of the bundle taken.
  * MBRB_ANNOUNCED(number) changes those at MBRB_RECORD_AT(own, number). No other byte of the records changes, which is
  * proved. mbrb_open changes all of them.
  *   - These 32 bytes are saved all or nothing: after a loss of power either the old or the new ones are there. A
@@ -96,7 +100,8 @@
  *      is still to be acted on, and the signatures of section 6. An older copy is not it. If that cannot be done, the
  *      unit has forgotten what it signed: go to "A lost block" below.
  *   2. Act on each body that is still to be acted on. The calls do not tell it again: they answer 22 from now on. Where
- *      power fails between acting and noting it, it is acted on twice; where that does harm, note it first.
+ *      power fails between acting and noting it, it is acted on twice; where that does harm, note it first. A host of
+ *      section 13 asks for the setpoint too, whether or not a body is left.
  *   3. Compare the block's day with the clock's, as in section 4. If the clock's is later, open the new day and go on at
  *      6: what was still to be sent is of yesterday, and is refused by all who have opened the new day.
  *   4. Else do not open the day again.
@@ -175,14 +180,16 @@
  *   24             its sender has signed two bodies and is faulty: worth a note to the installer. The slot may still be
  *                  delivered
  *   25             no more announcements until the next day
+ *   27             usual: too few senders have a setpoint that is delivered here. Go on as before (section 13)
  *
  * 21, MBRB_UNSOUND_RECORD: the record is not one that these calls leave. The day was not opened (which is not noticed
  * where the bytes happen to be zero), the table is another one (with a stricter quorum, for instance), 32 bytes are
- * half old and half new, or something else wrote there. Make no more calls on these records, do not repair them, and do
- * not open this day again. Where a copy holds exactly what was saved last, load it as after a restart; if 21 or 23
- * comes again after that, do not load again. Otherwise the unit is silent until it opens a day that is later than the
- * last opened day kept apart (section 5), since the day in the block may be damaged too; the others bear that, as one
- * of their t.
+ * half old and half new, or something else wrote there. Taking, preview and announcing look at the records that they
+ * need; mbrb_setpoint looks at all of them, and may be the first to see it. Make no more calls on these records, do not
+ * repair them, and do not open this day again. Where a copy holds exactly what was saved last, load it as after a
+ * restart; if 21 or 23 comes again after that, do not load again. Otherwise the unit is silent until it opens a day
+ * that is later than the last opened day kept apart (section 5), since the day in the block may be damaged too; the
+ * others bear that, as one of their t.
  *
  * 23, MBRB_OWN_SIGNATURE_UNKNOWN: the bundle has our bit, and our record does not hold its body. Let the key chip look
  * at our signature again.
@@ -196,13 +203,15 @@
  * Proved of the functions, for all bytes, lengths and numbers: each code, each byte afterwards, that a refusal changes
  * none, that taking and announcing write to the record of their slot and to no other, that taking answers by this
  * record, the input, the table and the lengths, and announcing by our own sixteen records besides, that a preview gives
- * taking's code and `out` and leaves the records, and that a call ends.
+ * taking's code and `out` and leaves the records, that mbrb_setpoint leaves them too and stays between the setpoints of
+ * sound senders, as section 13 says, and that a call ends.
  * Proved of whole lists of calls at sound units, for each quorum that is allowed: agreement, at most one delivery and
  * two sendings in a slot, only announced bodies in a sound sender's slots, and delivery as in section 7; that 21 does
- * not come there, nor 23 where the bits are true; and that previews between the calls change nothing of it.
+ * not come there, nor 23 where the bits are true; that previews between the calls change nothing of it; and that what
+ * mbrb_setpoint pools of a sound sender is something that this sender announced.
  * docs/CLAIMS.md has each with its file.
  *
- * Argued and not proved: that a host which keeps to sections 3 to 7, and to 12, is such a list. The lists know no
+ * Argued and not proved: that a host which keeps to sections 3 to 7, 12 and 13 is such a list. The lists know no
  * restart. A call whose change was lost before anything of it was sent or acted on is left out of the list: its answer
  * was seen by nobody, and what is proved of records says that calls on other slots give the same answers without it.
  * (Announcing looks at several slots, so an announcement is saved before the next call.) With a lost MBRB_KEPT all of
@@ -216,15 +225,17 @@
  *   - Memory: MBRB_RECORDS_SIZE(n) bytes of records, which the host gives. The library allocates nothing and has no
  *     data of its own.
  *   - Stack: 584 bytes for mbrb_broadcast with all sixteen numbers used (72 with none), 72 for mbrb_receive, 64 for
- *     mbrb_preview, 24 for mbrb_open, and for what the host's memset takes below it; besides, up to 48 bytes of
- *     arguments that the caller puts there. These are the frames of the machine code, return addresses included;
- *     tests/footprint sees the same on a stack that was painted before.
- *   - Code: 1,705 bytes, and 966 more where mbrb_preview is used: it is a member of its own in the library, and a host
- *     that does not call it does not link it. No vector or floating-point register is used. The one symbol that the
- *     library takes from the host is memset, for mbrb_open.
- *   - mbrb_receive uses 16 bytes below the stack pointer (the red zone of the calling convention), and mbrb_preview 8,
- *     counted above. Where interrupts run on the stack of what they interrupt, they must leave the 128 bytes below it
- *     alone, as the convention asks.
+ *     mbrb_preview, 24 for mbrb_open, 184 for mbrb_setpoint, and for what the host's memset takes below mbrb_open;
+ *     besides, up to 48 bytes of arguments that the caller puts there. These are the frames of the machine code, return
+ *     addresses included; tests/footprint sees the same on a stack that was painted before.
+ *   - Code: 1,705 bytes, 966 more where mbrb_preview is used, and 723 more where mbrb_setpoint is: each of the two
+ *     is a member of its own in the library, and a host that does not call it does not link it. No vector or
+ *     floating-point register is used. The one symbol that the library takes from the host is memset, for mbrb_open.
+ *   - mbrb_receive uses 16 bytes below the stack pointer (the red zone of the calling convention), mbrb_preview 8, and
+ *     mbrb_setpoint 120, counted above. Where interrupts run on the stack of what they interrupt, they must leave
+ *     the 128 bytes below it alone, as the convention asks.
+ *   - Time: mbrb_open and mbrb_setpoint go through all records, so that theirs grows with n. mbrb_broadcast goes
+ *     through our own, and the others look at one record.
  *
  *
  * 11. A controller that is no x86-64
@@ -264,6 +275,58 @@
  *   - Nobody acts on the body: MBRB_DELIVERED means that it would be delivered, not that it is.
  *   - The bundle is still to be taken. Until then it has not reached this unit (section 7).
  * At 21 and 23 the unit does what section 8 says, at the latest when taking gives them: they tell of its records.
+ *
+ *
+ * 13. One setpoint from many
+ *
+ * mbrb_setpoint is for a host that acts on one setpoint of the whole cascade. A unit that heats by the setpoint which
+ * it has heard last is dragged along by any other one whose sensors are swapped. This call gives it a middle one of
+ * those that the units have announced.
+ *
+ * A body is a setpoint if its first byte is MBRB_SETPOINT_TAG and bytes 3 to 15 are zero. Bytes 1 and 2 are a signed
+ * number of hundredths of a degree Celsius, the high byte first: 21.50 degrees are hexadecimal 0866, and -0.05 are
+ * fffb. A unit announces one as it announces any body:
+ *
+ *     const uint8_t body[MBRB_BODY_SIZE] = {MBRB_SETPOINT_TAG, (uint8_t)((uint16_t)hundredths >> 8),
+ *                                           (uint8_t)hundredths};
+ *
+ * where hundredths is an int16_t. It has sixteen numbers a day for all that it announces, so it announces its setpoint
+ * after opening a day, and later where it changes by something that matters. All units take such bodies for setpoints
+ * and for nothing else: one that a site gives another meaning is pooled all the same.
+ *
+ * What is pooled: of each sender, of its setpoints that this unit has delivered today, the one with the highest number,
+ * which is the newest. All else is passed over: other bodies, whatever their number, and what is held and not
+ * delivered, our own announcements among them. A sender that is in the pool stays there until the next day is opened,
+ * by its last setpoint if it falls silent; there is no call that takes it out.
+ *
+ * What comes out: with m senders in the pool, the setpoint at place (m + 1) / 2, the fraction dropped, counted from 1
+ * in rising order: the one in the middle, or the lower one of two. So it is always one that a sender announced, and no
+ * mean. MBRB_IS_SETPOINT(code) tells that it is there, and MBRB_SETPOINT(code) what it is.
+ *
+ * What it is worth:
+ *   - If at most t of the senders in the pool are faulty, it is not below the lowest nor above the highest setpoint
+ *     that is pooled from sound ones. Nothing else is assumed, and any t senders may be the faulty ones: a unit with
+ *     swapped sensors is one of them here, although it keeps to this page in all it sends.
+ *   - In a cascade that keeps to this page, what is pooled from a sound sender is a setpoint that this sender announced
+ *     that day. So the outcome lies between two that sound units have asked for, and that is why it can be acted on.
+ * What it is not:
+ *   - It need not be the same at two units at a time: one has delivered what is still on its way to the other. Two
+ *     sound units that have delivered in the same slots have the same one.
+ *   - Where between the lowest and the highest of the sound ones it lies, faulty ones may sway.
+ *   - With more than t faulty senders in the pool it may be anything.
+ *
+ * When to ask: after each MBRB_DELIVERED, once that is saved (section 4), and after a restart (section 5, step 2),
+ * since the block has the records and not the outcome. Nothing else changes it, but for an opening. The table is that
+ * of the other calls: the block's day and quorum, under the lock (section 3). There is nothing to save and nothing to
+ * send afterwards.
+ *
+ * Where no setpoint comes out:
+ *   - 27, MBRB_TOO_FEW_SETPOINTS: fewer than 2t + 1 senders are in the pool, and t faulty ones could decide. This is no
+ *     error, and is so after each opening. Go on as before: by the unit's own setpoint, or by the last outcome. Silent
+ *     faulty units cannot keep it so: n - t is at least 2t + 1, so it is over at a unit that has delivered a setpoint
+ *     of each sound one; and once over it does not come again that day.
+ *   - 21, MBRB_UNSOUND_RECORD: some record of the buffer is not sound, whether it would count or not. Do what section 8
+ *     says. 1 and 20 are mistakes in the host.
  */
 #ifndef MBRB_H
 #define MBRB_H
@@ -277,9 +340,9 @@ extern "C" {
 
 /* The version of this interface and of the formats below. CHANGELOG.md says what each number stands for. */
 #define MBRB_VERSION_MAJOR 2
-#define MBRB_VERSION_MINOR 0
-#define MBRB_VERSION_PATCH 1
-#define MBRB_VERSION "2.0.1"
+#define MBRB_VERSION_MINOR 1
+#define MBRB_VERSION_PATCH 0
+#define MBRB_VERSION "2.1.0"
 
 /* Sizes of the buffers, in bytes. */
 #define MBRB_BODY_SIZE 16
@@ -303,6 +366,10 @@ extern "C" {
 #define MBRB_SIGNERS_AT 8 /* 8 bytes: unit u is the bit of weight 2 to the power u; in a record too */
 #define MBRB_BODY_AT 16   /* 16 bytes, in a record too */
 
+/* A body that is a setpoint (section 13): its first byte, and where the setpoint starts in it; the rest is zero. */
+#define MBRB_SETPOINT_TAG 1
+#define MBRB_SETPOINT_AT 1 /* 2 bytes */
+
 /* Where the record of a slot starts in the records. Its first byte is the state below; signers and body lie as in a
  * bundle, and what is left is zero. To save it, and for a display: of records that the calls have left. What is to be
  * acted on stands in `out` at MBRB_DELIVERED. */
@@ -320,33 +387,42 @@ extern "C" {
 #define MBRB_SIGNED 101    /* we sign this body: save, then send `out` */
 #define MBRB_DELIVERED 102 /* the body is delivered: save, then send `out` and act on the body */
 
-/* Codes of mbrb_broadcast: 200 plus the number under which the body was announced: save, then send `out`. */
+/* Codes of mbrb_broadcast, 200 to 215: 200 plus the number that the announced body has: save, then send `out`. */
 #define MBRB_ANNOUNCED(number) (200u + (number))
-#define MBRB_IS_ANNOUNCED(code) ((code) >= 200u)
+#define MBRB_IS_ANNOUNCED(code) ((uint32_t)(code) - 200u < MBRB_NUMBERS)
 #define MBRB_NUMBER(code) ((code) - 200u) /* the number in an announced code */
 
+/* Codes of mbrb_setpoint, 65,536 to 131,071: 65,536 plus the two bytes of the setpoint as a number without sign.
+ * MBRB_SETPOINT gives the hundredths of a degree in such a code, from -32,768 to 32,767, as an int16_t; it looks at the
+ * lowest sixteen bits alone, so that it serves for the two bytes of a body too. Each of the two evaluates its argument
+ * once, is constant where that is, and gives the same with every compiler: no conversion is out of range. */
+#define MBRB_IS_SETPOINT(code) ((uint32_t)(code) >> 16 == 1u)
+#define MBRB_SETPOINT(code) ((int16_t)((int32_t)(((uint32_t)(code) & 0xffffu) ^ 0x8000u) - 32768))
+
 /* Refusals, 1 to 99: the first that applies in this order. No byte has changed. In brackets the calls that may give it:
- * O mbrb_open, B mbrb_broadcast, R mbrb_receive, P mbrb_preview. */
-#define MBRB_BAD_TABLE 1               /* [O B R P] n not 1 to 64, or n <= 3t + 2d, or own >= n, or the quorum below
-                                                    MBRB_LEAST_QUORUM(n, t) or above MBRB_MOST_QUORUM(n, t, d) */
-#define MBRB_BUNDLE_LENGTH 2           /* [R P]     the bundle has not 32 bytes */
-#define MBRB_RESERVED_BYTES 3          /* [R P]     byte 6 or 7 of the bundle is not zero */
-#define MBRB_OTHER_DAY 4               /* [R P]     the bundle is of another day */
-#define MBRB_SENDER_RANGE 5            /* [R P]     its sender is n or above */
-#define MBRB_NUMBER_RANGE 6            /* [R P]     its number is above 15 */
-#define MBRB_SIGNER_RANGE 7            /* [R P]     it has a signer at n or above */
-#define MBRB_SENDER_UNSIGNED 8         /* [R P]     its sender has not signed it */
-#define MBRB_BODY_LENGTH 9             /* [B]       the body has not 16 bytes */
-#define MBRB_OUT_LENGTH 10             /* [B R P]   `out` has not 32 bytes */
-#define MBRB_RECORDS_LENGTH 20         /* [O B R P] `records` has not MBRB_RECORDS_SIZE(n) bytes */
-#define MBRB_UNSOUND_RECORD 21         /* [B R P]   the slot's record, or one of ours before the first free one, is none
-                                                    that these calls leave: section 8 */
-#define MBRB_ALREADY_DELIVERED 22      /* [R P]     the slot is delivered already; this is usual, nothing is wrong */
-#define MBRB_OWN_SIGNATURE_UNKNOWN 23  /* [R P]     it has our signature, yet our record does not hold its body:
-                                                    section 8 */
-#define MBRB_OTHER_BODY 24             /* [R P]     another body is held, and fewer than a quorum signed this one: its
-                                                    sender said two things */
-#define MBRB_NO_FREE_NUMBER 25         /* [B]       our sixteen numbers of the day are used up */
+ * O mbrb_open, B mbrb_broadcast, R mbrb_receive, P mbrb_preview, S mbrb_setpoint. */
+#define MBRB_BAD_TABLE 1               /* [O B R P S] n not 1 to 64, or n <= 3t + 2d, or own >= n, or the quorum below
+                                                      MBRB_LEAST_QUORUM(n, t) or above MBRB_MOST_QUORUM(n, t, d) */
+#define MBRB_BUNDLE_LENGTH 2           /* [R P]       the bundle has not 32 bytes */
+#define MBRB_RESERVED_BYTES 3          /* [R P]       byte 6 or 7 of the bundle is not zero */
+#define MBRB_OTHER_DAY 4               /* [R P]       the bundle is of another day */
+#define MBRB_SENDER_RANGE 5            /* [R P]       its sender is n or above */
+#define MBRB_NUMBER_RANGE 6            /* [R P]       its number is above 15 */
+#define MBRB_SIGNER_RANGE 7            /* [R P]       it has a signer at n or above */
+#define MBRB_SENDER_UNSIGNED 8         /* [R P]       its sender has not signed it */
+#define MBRB_BODY_LENGTH 9             /* [B]         the body has not 16 bytes */
+#define MBRB_OUT_LENGTH 10             /* [B R P]     `out` has not 32 bytes */
+#define MBRB_RECORDS_LENGTH 20         /* [O B R P S] `records` has not MBRB_RECORDS_SIZE(n) bytes */
+#define MBRB_UNSOUND_RECORD 21         /* [B R P S]   the slot's record, one of ours before the first free one, or for S
+                                                      any record, is none that these calls leave: section 8 */
+#define MBRB_ALREADY_DELIVERED 22      /* [R P]       the slot is delivered already; this is usual, nothing is wrong */
+#define MBRB_OWN_SIGNATURE_UNKNOWN 23  /* [R P]       it has our signature, yet our record does not hold its body:
+                                                      section 8 */
+#define MBRB_OTHER_BODY 24             /* [R P]       another body is held, and fewer than a quorum signed this one: its
+                                                      sender said two things */
+#define MBRB_NO_FREE_NUMBER 25         /* [B]         our sixteen numbers of the day are used up */
+#define MBRB_TOO_FEW_SETPOINTS 27      /* [S]         fewer than 2t + 1 senders have a delivered setpoint; this is
+                                                      usual, nothing is wrong: section 13 */
 
 /* Each function takes the table first: n, t, d, own, day and quorum; all but own are the same at all units. */
 
@@ -373,6 +449,11 @@ uint32_t mbrb_preview(uint8_t n, uint8_t t, uint8_t d, uint8_t own, uint32_t day
                       const uint8_t *bundle, size_t bundle_len,
                       const uint8_t *records, size_t records_len,
                       uint8_t *out, size_t out_len);
+
+/* Finds one setpoint for this unit among those that are delivered here: the lower middle one of the newest of each
+ * sender. Nothing is written (section 13). */
+uint32_t mbrb_setpoint(uint8_t n, uint8_t t, uint8_t d, uint8_t own, uint32_t day, uint32_t quorum,
+                       const uint8_t *records, size_t records_len);
 
 #ifdef __cplusplus
 }

@@ -1,6 +1,6 @@
 /* Every code of include/mbrb.h, provoked once: its number and name as the header has them, and what the call gave. Each bundle is
- * previewed before it is taken. Then what the header says of places and bytes, what a stricter quorum does, and what happens to a host that
- * gives the records of a day another day or another quorum.
+ * previewed before it is taken. Then what the header says of places and bytes, what a stricter quorum does, what happens to a host that
+ * gives the records of a day another day or another quorum, and which setpoint comes out of many.
  *
  * Four units, of which one may be faulty, with the least quorum, which is 3; we are unit 1, on day 7. Each call starts from the records that
  * its line needs. The stricter quorum is that of a site with eight units.
@@ -78,6 +78,21 @@ static uint32_t take_by(struct table by, size_t bundle_len, size_t records_len, 
     return code;
 }
 
+/* Asks for the setpoint, which writes nothing. */
+static uint32_t pool_by(struct table by, size_t records_len)
+{
+    uint8_t before[sizeof records];
+    uint32_t code;
+
+    memcpy(before, records, sizeof records);
+    code = mbrb_setpoint(by.n, by.t, by.d, by.own, by.day, by.quorum, records, records_len);
+    if (memcmp(records, before, sizeof records) != 0) {
+        puts("    pooling wrote to the records");
+        differ = 1;
+    }
+    return code;
+}
+
 static void open_day(void)
 {
     open_by(usual, RECORDS);
@@ -91,6 +106,11 @@ static uint32_t announce(void)
 static uint32_t take(void)
 {
     return take_by(usual, sizeof bundle, RECORDS, sizeof out);
+}
+
+static uint32_t pool(void)
+{
+    return pool_by(usual, RECORDS);
 }
 
 /* A bundle of sender 0, number 0, with these signers and a body of sixteen times `text`. */
@@ -114,6 +134,7 @@ static void refused_from_the_input(void)
     TOLD(MBRB_BAD_TABLE, open_by(of_nobody, RECORDS));
     TOLD(MBRB_BAD_TABLE, announce_by(of_nobody, sizeof body, RECORDS, sizeof out));
     TOLD(MBRB_BAD_TABLE, take_by(of_nobody, sizeof bundle, RECORDS, sizeof out));
+    TOLD(MBRB_BAD_TABLE, pool_by(of_nobody, RECORDS));
     TOLD(MBRB_BUNDLE_LENGTH, take_by(usual, 31, RECORDS, sizeof out));
     bring_with(6, 1);
     TOLD(MBRB_RESERVED_BYTES, take());
@@ -138,9 +159,11 @@ static void refused_from_the_state(void)
     TOLD(MBRB_RECORDS_LENGTH, open_by(usual, RECORDS - 1));
     TOLD(MBRB_RECORDS_LENGTH, announce_by(usual, sizeof body, RECORDS - 1, sizeof out));
     TOLD(MBRB_RECORDS_LENGTH, take_by(usual, sizeof bundle, RECORDS - 1, sizeof out));
+    TOLD(MBRB_RECORDS_LENGTH, pool_by(usual, RECORDS - 1));
     memset(records, 0xff, RECORDS);
     TOLD(MBRB_UNSOUND_RECORD, announce());
     TOLD(MBRB_UNSOUND_RECORD, take());
+    TOLD(MBRB_UNSOUND_RECORD, pool());
     open_day();
     bring(1 | 2, 'a');
     TOLD(MBRB_OWN_SIGNATURE_UNKNOWN, take());
@@ -154,6 +177,7 @@ static void refused_from_the_state(void)
     for (int number = 0; number < MBRB_NUMBERS; number++)
         announce();
     TOLD(MBRB_NO_FREE_NUMBER, announce());
+    TOLD(MBRB_TOO_FEW_SETPOINTS, pool());
 }
 
 static void done(void)
@@ -178,6 +202,8 @@ static void done(void)
     bring(1, 'a');
     TOLD(MBRB_DELIVERED, take_by(bears_a_loss, sizeof bundle, MBRB_RECORDS_SIZE(3), sizeof out));
     TOLD(MBRB_BAD_TABLE, take_by(bears_a_fault, sizeof bundle, MBRB_RECORDS_SIZE(3), sizeof out));
+    TOLD(MBRB_TOO_FEW_SETPOINTS, pool_by(bears_a_loss, MBRB_RECORDS_SIZE(3)));
+    TOLD(MBRB_BAD_TABLE, pool_by(bears_a_fault, MBRB_RECORDS_SIZE(3)));
 }
 
 static void previews(void)
@@ -348,6 +374,128 @@ static void counted_by_the_quorum(void)
     TOLD(MBRB_ANNOUNCED(1), announce_there(5));
 }
 
+/* A body that is a setpoint, as section 13 has it. */
+static void make_setpoint(uint8_t *to, int16_t hundredths)
+{
+    memset(to, 0, MBRB_BODY_SIZE);
+    to[0] = MBRB_SETPOINT_TAG;
+    to[MBRB_SETPOINT_AT] = (uint8_t)((uint16_t)hundredths >> 8);
+    to[MBRB_SETPOINT_AT + 1] = (uint8_t)hundredths;
+}
+
+/* A bundle with a setpoint, of this slot. */
+static void bring_setpoint(uint8_t sender, uint8_t number, unsigned signers, int16_t hundredths)
+{
+    bring(signers, 0);
+    bundle[MBRB_SENDER_AT] = sender;
+    bundle[MBRB_NUMBER_AT] = number;
+    make_setpoint(bundle + MBRB_BODY_AT, hundredths);
+}
+
+/* The bundle is taken, and delivered. */
+static void deliver(uint32_t code)
+{
+    if (code != MBRB_DELIVERED) {
+        printf("    %" PRIu32 ", and not delivered\n", code);
+        differ = 1;
+    }
+}
+
+/* Of senders 0, 2 and 3; our own we announce first. */
+static void deliver_setpoint(uint8_t sender, uint8_t number, int16_t hundredths)
+{
+    bring_setpoint(sender, number, 1 | 4 | 8, hundredths);
+    deliver(take());
+}
+
+static void told_setpoint(const char *of, int16_t expected, uint32_t code)
+{
+    printf("%" PRIu32 " is %d, %s\n", code, MBRB_SETPOINT(code), of);
+    if (!MBRB_IS_SETPOINT(code) || MBRB_SETPOINT(code) != expected) {
+        printf("    the header has %d\n", expected);
+        differ = 1;
+    }
+}
+
+/* A day with these three, of senders 0, 2 and 3. */
+static void day_of(const char *of, int16_t first, int16_t second, int16_t third, int16_t expected)
+{
+    open_day();
+    deliver_setpoint(0, 0, first);
+    deliver_setpoint(2, 0, second);
+    deliver_setpoint(3, 0, third);
+    told_setpoint(of, expected, pool());
+}
+
+/* Where one of four may be faulty, three senders make a setpoint. Sender 3 has swapped sensors. */
+static void setpoints(void)
+{
+    puts("setpoints in hundredths of a degree, of 4 units, of which 1 may be faulty");
+    open_day();
+    deliver_setpoint(0, 0, 2150);
+    deliver_setpoint(2, 0, 2100);
+    deliver_setpoint(2, 1, 2110);
+    TOLD(MBRB_TOO_FEW_SETPOINTS, pool());
+    deliver_setpoint(3, 0, 9500);
+    told_setpoint("of 2110 2150 9500", 2150, pool());
+    make_setpoint(body, 2120);
+    announce();
+    told_setpoint("since our own 2120 is announced and not delivered", 2150, pool());
+    bring_setpoint(1, 0, 1 | 2 | 4, 2120);
+    deliver(take());
+    told_setpoint("of 2110 2120 2150 9500, the lower one of two", 2120, pool());
+    deliver_setpoint(2, 5, 2200);
+    told_setpoint("of 2120 2150 2200 9500, since 2200 is newer than 2110", 2150, pool());
+    deliver_setpoint(2, 3, -5);
+    told_setpoint("since -5 comes late, and 2200 is newer", 2150, pool());
+
+    /* Passed over: another first byte, a fourth and a last byte that are not zero, and a setpoint that is held. Each has a higher number, and
+     * without any of the three senders there are too few. */
+    day_of("of 2150 2110 9500", 2150, 2110, 9500, 2150);
+    bring_setpoint(0, 15, 1 | 4 | 8, -5);
+    bundle[MBRB_BODY_AT] = 2;
+    deliver(take());
+    bring_setpoint(2, 15, 1 | 4 | 8, 9000);
+    bundle[MBRB_BODY_AT + 15] = 1;
+    deliver(take());
+    bring_setpoint(3, 15, 1 | 4 | 8, -5);
+    bundle[MBRB_BODY_AT + 3] = 1;
+    deliver(take());
+    bring_setpoint(0, 14, 1, -5);
+    TOLD(MBRB_SIGNED, take());
+    told_setpoint("since other bodies are passed over, and what is held", 2150, pool());
+    told_setpoint("on day 8 too, since the records do not hold their day", 2150, pool_by(of_day_8, RECORDS));
+
+    day_of("hexadecimal fffb, of -2000 2150 -5", -2000, 2150, -5, -5);
+    day_of("hexadecimal fffe, of -1 -2 -3", -1, -2, -3, -2);
+    day_of("hexadecimal 7fff, of 32767 0 32767", 32767, 0, 32767, 32767);
+    day_of("hexadecimal 8000, of 32767 -32768 -32768", 32767, -32768, -32768, -32768);
+    day_of("hexadecimal 0000, of 32767 -32768 0", 32767, -32768, 0, 0);
+
+    /* A damaged record that would not count. Taking in another slot does not see it. */
+    records[MBRB_RECORD_AT(3, 15) + MBRB_BODY_AT + 15] = 1;
+    TOLD(MBRB_UNSOUND_RECORD, pool());
+    bring_setpoint(0, 1, 1, -5);
+    TOLD(MBRB_SIGNED, take());
+}
+
+/* At the site with eight units: the quorum decides which records are sound, and not which setpoint comes out. Six signers are a quorum by
+ * both, five by one. */
+static void setpoints_by_the_quorum(void)
+{
+    open_by(site(5), SITE_RECORDS);
+    for (uint8_t sender = 4; sender < 7; sender++) {
+        bring_setpoint(sender, 0, 1 | 4 | 16 | 32 | 64, (int16_t)(2000 + sender));
+        deliver(take_there(5));
+    }
+    told_setpoint("with quorum 5", 2005, pool_by(site(5), SITE_RECORDS));
+    told_setpoint("with quorum 6", 2005, pool_by(site(6), SITE_RECORDS));
+    bring_setpoint(7, 0, 1 | 4 | 8 | 128, 1500);
+    deliver(take_there(5));
+    told_setpoint("with quorum 5 and a record that five have signed", 2004, pool_by(site(5), SITE_RECORDS));
+    TOLD(MBRB_UNSOUND_RECORD, pool_by(site(6), SITE_RECORDS));
+}
+
 int main(void)
 {
     refused_from_the_input();
@@ -359,5 +507,7 @@ int main(void)
     yesterday();
     quorums();
     counted_by_the_quorum();
+    setpoints();
+    setpoints_by_the_quorum();
     return differ;
 }

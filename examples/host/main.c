@@ -1,9 +1,10 @@
 /* Four units of a cascade in one program, over a radio that is played from a list. Unit 3 is faulty: it says two things in one slot. Unit 2
- * loses power between a call and its sending, and restarts; an installer then looks at its display. In the end a new day begins.
+ * loses power between a call and its sending, and restarts; an installer then looks at its display. In the end a new day begins, and each unit
+ * heats by one setpoint of all, although the sensors of unit 3 are swapped.
  *
- * The first half is to copy: open_day, announce, take, restart, show and preview face the library. The second half stands in for a unit's
- * hardware, the radio, the key chip and the clock, for what the site has set, and for the faulty unit. README.md says more; sections are those
- * of include/mbrb.h.
+ * The first half is to copy: open_day, announce, follow_setpoint, take, restart, show and preview face the library. The second half stands in
+ * for a unit's hardware, the radio, the key chip and the clock, for what the site has set, and for the faulty unit. README.md says more;
+ * sections are those of include/mbrb.h.
  */
 #include "mbrb.h"
 
@@ -40,10 +41,12 @@ struct unit {
 static void send(uint8_t from, const uint8_t *bundle);
 static void check_signatures(uint8_t *bundle);
 static void act_on(uint8_t own, const uint8_t *body);
+static void set_curve(uint8_t own, int16_t hundredths);
 static uint32_t clock_day(void);
 static uint32_t quorum_for(uint32_t day);
 static bool power_fails(const struct unit *unit);
 
+static void print_degrees(int16_t hundredths);
 static void print_slot(uint8_t sender, uint32_t number, const uint8_t *body);
 static void print_signers(const uint8_t *bundle);
 static void print_bundle(const uint8_t *arrived, const uint8_t *checked);
@@ -80,7 +83,7 @@ static void open_day(struct unit *unit, bool is_new)
     printf("unit %d opens day %" PRIu32 ": %" PRIu32 "\n", unit->own, day, code);
 }
 
-/* What the last call gave to do is done and noted as done. If power fails between the two, restart does it again: acting on a setpoint twice
+/* What the last call gave to do is done and noted as done. If power fails between the two, restart does it again: to take the lead twice
  * does no harm (where it would, note it before acting), and the same bytes may be sent twice. */
 static void act_if_due(struct unit *unit)
 {
@@ -100,6 +103,40 @@ static void send_if_due(struct unit *unit)
     }
 }
 
+/* Section 8: after 21, and after 23 on signatures that were checked, the records are not what this unit has signed. */
+static void stop_if_lost(struct unit *unit, uint32_t code)
+{
+    if (code == MBRB_UNSOUND_RECORD || code == MBRB_OWN_SIGNATURE_UNKNOWN) {
+        unit->now = unit->saved; /* what is damaged is not saved */
+        unit->now.stopped = true;
+        unit->now.to_send = false; /* it is silent from now on */
+        save(unit);
+    }
+}
+
+/* Section 13: the heating curve follows one setpoint of all units, by what this one has delivered. What is asked for here is never saved: the
+ * records are, and restart asks again. With too few setpoints the curve stays as it is. */
+static void follow_setpoint(struct unit *unit)
+{
+    uint32_t code;
+
+    if (unit->now.stopped)
+        return;
+    code = mbrb_setpoint(UNITS, FAULTS, LOSSES, unit->own, unit->now.day, unit->now.quorum, unit->now.records, sizeof unit->now.records);
+    if (MBRB_IS_SETPOINT(code)) {
+        printf("unit %d heats by ", unit->own);
+        print_degrees(MBRB_SETPOINT(code));
+        printf(": %" PRIu32 "\n", code);
+        set_curve(unit->own, MBRB_SETPOINT(code));
+    } else if (code == MBRB_TOO_FEW_SETPOINTS) {
+        printf("unit %d keeps its curve: %" PRIu32 " too few setpoints\n", unit->own, code);
+    } else {
+        /* A mistake in this unit: a wrong table or length, or records written over. */
+        printf("unit %d cannot ask for a setpoint: %" PRIu32 "\n", unit->own, code);
+        stop_if_lost(unit, code);
+    }
+}
+
 /* After the codes that have something to send: first safe, then sent. */
 static void save_and_send(struct unit *unit, bool delivered)
 {
@@ -110,16 +147,8 @@ static void save_and_send(struct unit *unit, bool delivered)
         return;
     send_if_due(unit);
     act_if_due(unit);
-}
-
-/* Section 8: after 21, and after 23 on signatures that were checked, the records are not what this unit has signed. */
-static void stop_if_lost(struct unit *unit, uint32_t code)
-{
-    if (code == MBRB_UNSOUND_RECORD || code == MBRB_OWN_SIGNATURE_UNKNOWN) {
-        unit->now = unit->saved; /* what is damaged is not saved */
-        unit->now.stopped = true;
-        save(unit);
-    }
+    if (delivered)
+        follow_setpoint(unit);
 }
 
 static void announce(struct unit *unit, const uint8_t *body)
@@ -143,6 +172,14 @@ static void announce(struct unit *unit, const uint8_t *body)
         printf("unit %d cannot announce: %" PRIu32 "\n", unit->own, code);
         stop_if_lost(unit, code);
     }
+}
+
+/* A setpoint is announced as any body is; by its three bytes all units know it for one. */
+static void announce_setpoint(struct unit *unit, int16_t hundredths)
+{
+    const uint8_t body[MBRB_BODY_SIZE] = {MBRB_SETPOINT_TAG, (uint8_t)((uint16_t)hundredths >> 8), (uint8_t)hundredths};
+
+    announce(unit, body);
 }
 
 /* The code of a taken bundle in words, and what each is for. */
@@ -214,11 +251,12 @@ static void restart(struct unit *unit)
     printf("unit %d restarts on day %" PRIu32 "%s%s\n", unit->own, unit->now.day, unit->now.to_act_on ? ", to act" : "",
            unit->now.to_send ? ", to send" : "");
     act_if_due(unit);      /* 2. act on what is still to be acted on, whatever the day */
+    follow_setpoint(unit); /*    and set the curve, which is not in the block */
     open_day(unit, false); /* 3. compare its day with the clock's; 4. the same day is not opened again */
     send_if_due(unit);     /* 5. send what is still to be sent; 6. go on */
 }
 
-/* What is delivered stays in the records until the day is over, for a display. Firmware acts in act_on, and not on this. */
+/* What is delivered stays in the records until the day is over, for a display. Firmware acts in act_on and follow_setpoint, and not on this. */
 static void show(const struct unit *unit)
 {
     for (uint8_t sender = 0; sender < UNITS; sender++)
@@ -277,11 +315,18 @@ static uint32_t quorum_for(uint32_t day)
     return MBRB_LEAST_QUORUM(UNITS, FAULTS);
 }
 
-/* Here the heating curve gets the setpoint, or the unit takes the lead. */
+/* Here the unit takes the lead, or its turn to defrost. For a setpoint there is nothing to do: no unit heats by that of one other. */
 static void act_on(uint8_t own, const uint8_t *body)
 {
     (void)body;
     acted[own]++;
+}
+
+/* Here the heating curve gets the setpoint. Until the first one comes it has the unit's own. */
+static void set_curve(uint8_t own, int16_t hundredths)
+{
+    (void)own;
+    (void)hundredths;
 }
 
 static bool power_fails(const struct unit *unit)
@@ -298,7 +343,7 @@ static bool power_fails(const struct unit *unit)
 static struct {
     uint8_t from;
     uint8_t bundle[MBRB_BUNDLE_SIZE];
-} sent[32];
+} sent[40];
 static size_t sent_count;
 
 /* Here the key chip adds the signatures that the bits name, and the radio sends them with the bundle. */
@@ -342,9 +387,31 @@ static void check_signatures(uint8_t *bundle)
     }
 }
 
+/* The sign by itself: -5 hundredths have a whole part of 0, which has none. */
+static void print_degrees(int16_t hundredths)
+{
+    const int amount = hundredths < 0 ? -hundredths : hundredths;
+
+    printf("%s%d.%02d C", hundredths < 0 ? "-" : "", amount / 100, amount % 100);
+}
+
+static bool is_setpoint(const uint8_t *body)
+{
+    static const uint8_t zeros[MBRB_BODY_SIZE];
+
+    return body[0] == MBRB_SETPOINT_TAG && memcmp(body + MBRB_SETPOINT_AT + 2, zeros, MBRB_BODY_SIZE - MBRB_SETPOINT_AT - 2) == 0;
+}
+
+/* A body is a setpoint or text. */
 static void print_slot(uint8_t sender, uint32_t number, const uint8_t *body)
 {
-    printf("%d/%" PRIu32 " \"%.*s\"", sender, number, MBRB_BODY_SIZE, (const char *)body);
+    printf("%d/%" PRIu32 " ", sender, number);
+    if (is_setpoint(body)) {
+        printf("setpoint ");
+        print_degrees(MBRB_SETPOINT((uint32_t)body[MBRB_SETPOINT_AT] << 8 | body[MBRB_SETPOINT_AT + 1]));
+    } else {
+        printf("\"%.*s\"", MBRB_BODY_SIZE, (const char *)body);
+    }
 }
 
 static void print_signers(const uint8_t *bundle)
@@ -368,6 +435,9 @@ static void print_bundle(const uint8_t *arrived, const uint8_t *checked)
 
 #define LIAR 3
 #define BODY(text) ((const uint8_t *)(text)) /* 16 characters */
+
+static const uint8_t forged[MBRB_BODY_SIZE] = {MBRB_SETPOINT_TAG, 0x25, 0x1c};  /* 95.00 C */
+static const uint8_t swapped[MBRB_BODY_SIZE] = {MBRB_SETPOINT_TAG, 0xff, 0xfb}; /* -0.05 C */
 
 static void lie(uint8_t sender, unsigned signers, const uint8_t *body)
 {
@@ -394,7 +464,7 @@ static void hear(const uint8_t *bundle)
 /* Which sent bundle arrives where, in this order. With LOSSES 0, what a sound unit sends reaches units 0, 1 and 2. Its bytes count,
  * whoever brings them: 10 and 11 are the bytes of 9, and 12 and 13 those of 8, so none of these arrives everywhere by itself. What unit 3
  * sends reaches whom it will. */
-static const struct {
+static const struct arrival {
     uint8_t bundle;
     uint8_t unit;
 } arrivals[] = {
@@ -412,6 +482,15 @@ static const struct {
     {0, 2}, {4, 1}, {13, 2}, {5, 1}, {5, 2}, {6, 0}, {11, 2}, /* late */
 };
 
+/* The next day: bundles 14 to 17 are the setpoints that units 0 to 3 have announced, 22.00, 21.50, 21.00 and -0.05 C. */
+static const struct arrival arrivals_of_day_8[] = {
+    {14, 1}, {15, 2}, {16, 0}, {17, 0}, /* each is signed by another unit: unit 1 sends 18, unit 2 sends 19, unit 0 sends 20 and 21 */
+    {18, 2}, {19, 0}, {20, 1},          /* a sound unit's setpoint is delivered at each; they send 22, 23 and 24 */
+    {21, 1}, {25, 2}, {25, 0},          /* that of unit 3 too, of which unit 1 has sent 25; two setpoints are too few */
+    {22, 0}, {22, 1},                   /* three: another one is in the middle at unit 0 than at unit 1, for now */
+    {23, 1}, {23, 2}, {24, 2}, {24, 0}, /* four at each: all heat by the same one */
+};
+
 #define LOSES_POWER 8 /* the place in the list above at which unit 2 loses power, and all that was not saved */
 #define LOOKED_AT 9   /* the place of the bundle that an installer sees waiting there, on the display of unit 2 */
 
@@ -424,10 +503,10 @@ int main(void)
         open_day(&units[u], true); /* new, at its installation; any other start is restart() */
     }
 
-    announce(&units[0], BODY("setpoint 21.50 C"));              /* bundle 0 */
-    lie(LIAR, SIGNER(LIAR), BODY("lead is unit 1  "));          /* bundle 1, for unit 1 */
-    lie(LIAR, SIGNER(LIAR), BODY("lead is unit 2  "));          /* bundle 2, for units 0 and 2 */
-    lie(0, SIGNER(0) | SIGNER(LIAR), BODY("setpoint 95.00 C")); /* bundle 3, in unit 0's name */
+    announce_setpoint(&units[0], 2150);                /* bundle 0 */
+    lie(LIAR, SIGNER(LIAR), BODY("lead is unit 1  ")); /* bundle 1, for unit 1 */
+    lie(LIAR, SIGNER(LIAR), BODY("lead is unit 2  ")); /* bundle 2, for units 0 and 2 */
+    lie(0, SIGNER(0) | SIGNER(LIAR), forged);          /* bundle 3, in unit 0's name */
 
     for (size_t i = 0; i < sizeof arrivals / sizeof arrivals[0]; i++) {
         struct unit *unit = &units[arrivals[i].unit % LIAR];
@@ -450,12 +529,17 @@ int main(void)
     for (uint8_t u = 0; u < LIAR; u++)
         printf("unit %d has acted on %d bodies\n", u, acted[u]);
 
-    /* The next day: numbers start from 0 again, and a bundle of yesterday is late. */
+    /* The next day: numbers start from 0 again, and a bundle of yesterday is late. Each unit announces its setpoint, and unit 3 has swapped
+     * sensors: it takes the outside for the flow. */
     day_of_clock = 8;
     for (uint8_t u = 0; u < LIAR; u++)
         open_day(&units[u], false);
-    announce(&units[0], BODY("setpoint 22.00 C"));
+    announce_setpoint(&units[0], 2200);
     take(&units[1], sent[4].bundle);
-    take(&units[1], sent[sent_count - 1].bundle);
+    announce_setpoint(&units[1], 2150);
+    announce_setpoint(&units[2], 2100);
+    lie(LIAR, SIGNER(LIAR), swapped);
+    for (size_t i = 0; i < sizeof arrivals_of_day_8 / sizeof arrivals_of_day_8[0]; i++)
+        take(&units[arrivals_of_day_8[i].unit], sent[arrivals_of_day_8[i].bundle].bundle);
     return 0;
 }
