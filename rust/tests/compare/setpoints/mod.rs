@@ -70,7 +70,7 @@ fn host_and_reference_agree_on_setpoints_of_every_kind() {
         }
     }
     println!("{tally}");
-    tally.assert_complete((count / 10_000).clamp(1, 100));
+    tally.assert_complete((count / 2_000).clamp(1, 100));
 }
 
 #[test]

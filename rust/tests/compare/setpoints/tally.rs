@@ -15,12 +15,14 @@ pub enum Seen {
     WrongLength(Length),
     Malformed(Clause),
     MalformedAt(Place),
-    /// refused for setpoints missing: one, more, or the only one
+    /// refused as one setpoint is missing, of several
     OneMissing,
     SeveralMissing,
+    /// refused as there is no setpoint at all, though no fault is borne
     NonePooledWithoutFaults,
-    /// All others are of buffers with an outcome.
+    /// n of a buffer with an outcome; all that follows is of such
     Nodes(u8),
+    /// t
     Faults(u8),
     Quorum(Choice),
     /// how many setpoints there are more than are needed
@@ -52,15 +54,13 @@ pub struct Tally {
     seen: BTreeMap<Seen, u64>,
 }
 
-/// The code, but that every outcome has the same.
-fn without_value(code: u32) -> u32 {
-    code & !0xffff | if code >> 16 == 0 { code } else { 0 }
-}
+/// The lowest code of an outcome, and here the code of each.
+const OUTCOME: u32 = 1 << 16;
 
 impl Tally {
     pub fn count(&mut self, buffer: &Buffer, code: u32) {
         self.buffers += 1;
-        *self.codes.entry(without_value(code)).or_default() += 1;
+        *self.codes.entry(code.min(OUTCOME)).or_default() += 1;
         let mut seen = BTreeSet::new();
         match code {
             1 | 20 | 21 => see_defects(&mut seen, buffer, code),
@@ -74,7 +74,7 @@ impl Tally {
 
     /// Fails if something that can occur was seen less than `least` times, or if something was seen that cannot occur.
     pub fn assert_complete(&self, least: u64) {
-        for code in [1, 20, 21, 27, 1 << 16] {
+        for code in [1, 20, 21, 27, OUTCOME] {
             let count = self.codes.get(&code).copied().unwrap_or(0);
             assert!(count >= 10 * least, "code {code}: {count}");
         }
@@ -88,53 +88,58 @@ impl Tally {
     }
 }
 
+/// All that can be seen.
 fn kinds() -> impl Iterator<Item = Seen> {
-    use Seen::{
-        AllEqual, BothSigns, Changed, Highest, Lowest, MiddlesDiffer, MiddlesEqual,
-        NonePooledWithoutFaults, OneMissing, OutcomeAboveZero, OutcomeBelowZero, SeveralMissing,
-    };
-    let pairs = [(1, 20), (1, 21), (1, 27), (20, 21), (20, 27), (21, 27)];
-    let quorums = |allowed| {
-        let kept = move |choice: &Choice| choice.is_allowed() == allowed;
-        CHOICES.into_iter().filter(kept)
-    };
-    let single = [
-        AllEqual,
-        BothSigns,
-        Changed,
-        Highest,
-        Lowest,
-        MiddlesDiffer,
-        MiddlesEqual,
-        NonePooledWithoutFaults,
-        OneMissing,
-        OutcomeAboveZero,
-        OutcomeBelowZero,
-        SeveralMissing,
-    ];
+    let quorums = CHOICES
+        .into_iter()
+        .filter(|choice| choice.is_allowed())
+        .map(Seen::Quorum);
     let contents = || {
         let others = [Content::HeldSetpoint, Content::HeldOther, Content::Other];
         others.into_iter().chain(MARKS.map(Content::Stray))
     };
-    let causes = CAUSES
-        .into_iter()
-        .chain(quorums(false).map(Cause::Quorum))
-        .map(Seen::BadTable);
-    pairs
-        .map(|(first, second)| Seen::FirstOf(first, second))
-        .into_iter()
-        .chain(causes)
-        .chain(LENGTHS.map(Seen::WrongLength))
-        .chain(CLAUSES.map(Seen::Malformed))
-        .chain(PLACES.map(Seen::MalformedAt))
+    refusals()
         .chain((1..=64).map(Seen::Nodes))
         .chain((0..=21).map(Seen::Faults))
-        .chain(quorums(true).map(Seen::Quorum))
+        .chain(quorums)
         .chain((0..=MANY).map(Seen::Spare))
         .chain(contents().map(Seen::Above))
         .chain(contents().map(Seen::InPlaceOf))
-        .chain(single)
+        .chain(OF_SENDERS_AND_VALUES)
 }
+
+fn refusals() -> impl Iterator<Item = Seen> {
+    let pairs = [(1, 20), (1, 21), (1, 27), (20, 21), (20, 27), (21, 27)];
+    let bad_quorums = CHOICES
+        .into_iter()
+        .filter(|choice| !choice.is_allowed())
+        .map(Cause::Quorum);
+    let missing = [
+        Seen::OneMissing,
+        Seen::SeveralMissing,
+        Seen::NonePooledWithoutFaults,
+    ];
+    pairs
+        .map(|(first, second)| Seen::FirstOf(first, second))
+        .into_iter()
+        .chain(CAUSES.into_iter().chain(bad_quorums).map(Seen::BadTable))
+        .chain(LENGTHS.map(Seen::WrongLength))
+        .chain(CLAUSES.map(Seen::Malformed))
+        .chain(PLACES.map(Seen::MalformedAt))
+        .chain(missing)
+}
+
+const OF_SENDERS_AND_VALUES: [Seen; 9] = [
+    Seen::Changed,
+    Seen::OutcomeBelowZero,
+    Seen::OutcomeAboveZero,
+    Seen::BothSigns,
+    Seen::MiddlesDiffer,
+    Seen::MiddlesEqual,
+    Seen::AllEqual,
+    Seen::Lowest,
+    Seen::Highest,
+];
 
 /// Of a table, but for its quorum.
 const CAUSES: [Cause; 6] = [
