@@ -70,14 +70,14 @@ impl Pool {
         let spare = u32::from(config.n) - needed;
         let more = [0, 0, 1, random.below(spare as usize + 1) as u32][random.below(4)];
         let pooled = choose(random, config.mask(), needed + more.min(spare));
-        let liars = choose(random, pooled, faulty);
+        let faulty_senders = choose(random, pooled, faulty);
         let lie = LIES[random.below(LIES.len())];
         let usual = random.below(9_000) as i16 - 3_000;
         let one_value = random.word() as i16;
         let spread = [0, 10, 500][random.below(3)];
         let mut asked_for = Vec::new();
         buffer.fill(random, pooled, |random, sender| {
-            if liars >> sender & 1 == 1 {
+            if faulty_senders >> sender & 1 == 1 {
                 return lie.value(random, usual, one_value);
             }
             let value = usual + random.below(2 * spread + 1) as i16 - spread as i16;

@@ -98,17 +98,17 @@ impl Rules {
         let (records, _) = records.as_chunks::<32>();
         let (mut values, mut malformed) = (Vec::new(), false);
         for (sender, records) in (0..config.n).zip(records.chunks(16)) {
-            let sound = |record: &[u8; 32]| (self.well_formed)(config, sender, record);
+            let passes = |record: &[u8; 32]| (self.well_formed)(config, sender, record);
             let payloads: Vec<_> = records
                 .iter()
                 .enumerate()
-                .filter(|(_, record)| self.states.contains(&record[0]) && sound(record))
+                .filter(|(_, record)| self.states.contains(&record[0]) && passes(record))
                 .map(|(seq, record)| (seq, self.read(&record[16..])))
                 .collect();
             let counted = (self.counts)(&payloads);
             let mut numbered = records.iter().enumerate();
             malformed |=
-                numbered.any(|(seq, record)| (self.tested)(seq, &counted) && !sound(record));
+                numbered.any(|(seq, record)| (self.tested)(seq, &counted) && !passes(record));
             values.extend(counted.iter().map(|(_, value)| value));
         }
         (values, malformed)
