@@ -57,6 +57,16 @@ extern "C" {
         out: *mut u8,
         out_len: usize,
     ) -> u32;
+    fn mbrb_setpoint(
+        n: u8,
+        t: u8,
+        d: u8,
+        own: u8,
+        day: u32,
+        quorum: u32,
+        records: *const u8,
+        records_len: usize,
+    ) -> u32;
 }
 
 /// Opens a day: the host's code of the answer.
@@ -140,6 +150,24 @@ pub fn preview(config: &Config, bundle: &[u8], records: &[u8], out: &mut [u8]) -
             records.len(),
             out.as_mut_ptr(),
             out.len(),
+        )
+    }
+}
+
+/// One setpoint from many: the host's code of the answer.
+#[inline]
+pub fn setpoint(config: &Config, records: &[u8]) -> u32 {
+    // SAFETY: as for `preview`.
+    unsafe {
+        mbrb_setpoint(
+            config.n,
+            config.t,
+            config.d,
+            config.own,
+            config.day,
+            config.q,
+            records.as_ptr(),
+            records.len(),
         )
     }
 }

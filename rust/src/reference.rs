@@ -1,4 +1,5 @@
-//! Opening, broadcast, receive and its preview, written from the papers alone, to be compared with the proved functions.
+//! Opening, broadcast, receive and its preview, and the setpoint of many, written from the papers alone, to be compared with the proved
+//! functions.
 //!
 //! Every check comes before the first store, so a refusal changes no byte.
 
@@ -25,6 +26,7 @@ pub enum Refusal {
     OwnSignatureNotHeld = 23,
     OtherPayloadWithoutQuorum = 24,
     NoEmptyRecord = 25,
+    TooFewSetpoints = 27,
 }
 
 impl Refusal {
@@ -365,6 +367,55 @@ pub fn preview(
     foresee(config, bundle, records, out).map(|outcome| outcome.receipt)
 }
 
+/// The setpoint that a payload holds, in hundredths of a degree Celsius; None if it holds something else.
+#[inline]
+fn setpoint_in(payload: [u8; 16]) -> Option<i16> {
+    let [1, high, low, rest @ ..] = payload else {
+        return None;
+    };
+    (rest == [0; 13]).then_some(i16::from_be_bytes([high, low]))
+}
+
+/// The setpoint that counts for a sender: of those it has delivered, the one with the highest number.
+// Inlined, it shares the caller's check of the config, as reading a record does.
+#[inline(always)]
+fn last_setpoint(
+    config: &Config,
+    sender: u8,
+    records: &[[u8; 32]; 16],
+) -> Result<Option<i16>, Refusal> {
+    let mut last = None;
+    for bytes in records {
+        let record = Record::read(config, sender, bytes)?;
+        if record.state == State::Delivered {
+            last = setpoint_in(record.payload).or(last);
+        }
+    }
+    Ok(last)
+}
+
+/// The lower middle of the setpoints that count, one for each sender that has any. With 2t + 1 of them, t that faulty senders made up do
+/// not move it past all the others. The rules: one setpoint from many.
+pub fn setpoint(config: &Config, records: &[u8]) -> Result<i16, Refusal> {
+    require(config.good(), Refusal::ConfigNotGood)?;
+    let complete = records.len() == config.records_length();
+    require(complete, Refusal::RecordsLength)?;
+    let (slots, _) = records.as_chunks();
+    let (senders, _) = slots.as_chunks();
+    let (mut pooled, mut count) = ([0; 64], 0);
+    for (sender, records) in (0..config.n).zip(senders) {
+        if let Some(value) = last_setpoint(config, sender, records)? {
+            pooled[count] = value;
+            count += 1;
+        }
+    }
+    let enough = count > 2 * usize::from(config.t);
+    require(enough, Refusal::TooFewSetpoints)?;
+    let pooled = &mut pooled[..count];
+    pooled.sort_unstable();
+    Ok(pooled[(count - 1) / 2])
+}
+
 /// `open` for a C host: the refusal's number, or 0.
 pub fn open_code(config: &Config, records: &mut [u8]) -> u32 {
     match open(config, records) {
@@ -389,6 +440,14 @@ pub fn receive_code(config: &Config, bundle: &[u8], records: &mut [u8], out: &mu
 /// `preview` for a C host: the refusal's number, or the receipt's code.
 pub fn preview_code(config: &Config, bundle: &[u8], records: &[u8], out: &mut [u8]) -> u32 {
     preview(config, bundle, records, out).map_or_else(Refusal::number, Receipt::code)
+}
+
+/// `setpoint` for a C host: the refusal's number, or the setpoint's two bytes behind a 1, above every refusal whatever its sign.
+pub fn setpoint_code(config: &Config, records: &[u8]) -> u32 {
+    match setpoint(config, records) {
+        Ok(value) => 1 << 16 | u32::from(value.cast_unsigned()),
+        Err(refusal) => refusal.number(),
+    }
 }
 
 #[cfg(test)]
@@ -628,6 +687,88 @@ mod tests {
         for _ in 0..2 {
             let previewed = preview(&config, &bundle, &records, &mut [0; 32]);
             assert_eq!(previewed, Ok(Receipt::Signed(2)));
+        }
+    }
+
+    fn setpoint_payload(value: i16) -> [u8; 16] {
+        let [high, low] = value.to_be_bytes();
+        let mut payload = [0; 16];
+        payload[..3].copy_from_slice(&[1, high, low]);
+        payload
+    }
+
+    /// The setpoint at node 1 of 4, 1, 0, from such records, each delivered by all: sender, number, payload.
+    fn setpoint_from(delivered: &[(usize, usize, [u8; 16])]) -> Result<i16, Refusal> {
+        let mut records = [[0; 32]; 64];
+        for &(sender, seq, payload) in delivered {
+            records[16 * sender + seq] = record(2, 15, payload);
+        }
+        setpoint(&config(4, 1, 0, 1), records.as_flattened())
+    }
+
+    #[test]
+    fn a_setpoint_is_signed_with_its_high_byte_first() {
+        let payload = |high, low| [1, high, low, 0, 0, 0, 0, 0, 0, 0, 0, 0, 0, 0, 0, 0];
+        assert_eq!(setpoint_in(payload(0xff, 0xfb)), Some(-5));
+        assert_eq!(setpoint_in(payload(0x08, 0x34)), Some(2100));
+        assert_eq!(setpoint_in(payload(0x80, 0)), Some(i16::MIN));
+        for at in [0, 3, 9, 15] {
+            let mut other = payload(0xff, 0xfb);
+            other[at] ^= 0x80;
+            assert_eq!(setpoint_in(other), None);
+        }
+        assert_eq!(setpoint_in([0; 16]), None);
+    }
+
+    #[test]
+    fn the_outcome_is_the_lower_middle_of_signed_values() {
+        let outcome = |values: &[i16]| {
+            let of_sender = |(sender, &value)| (sender, 0, setpoint_payload(value));
+            let delivered: Vec<_> = values.iter().enumerate().map(of_sender).collect();
+            setpoint_from(&delivered)
+        };
+        assert_eq!(outcome(&[300, -5, 200]), Ok(200));
+        assert_eq!(outcome(&[-5, 7, -300, 2]), Ok(-5));
+        assert_eq!(
+            outcome(&[i16::MAX, i16::MIN, i16::MAX, i16::MIN]),
+            Ok(i16::MIN)
+        );
+        assert_eq!(outcome(&[4, 4, 4, 9]), Ok(4));
+        assert_eq!(outcome(&[300, -5]), Err(Refusal::TooFewSetpoints));
+    }
+
+    #[test]
+    fn the_last_setpoint_of_a_sender_counts_whatever_else_it_says_later() {
+        let [low, mid, high] = [-5, 0, 5].map(setpoint_payload);
+        let three = [(0, 3, high), (0, 9, low), (1, 0, mid), (2, 15, high)];
+        assert_eq!(setpoint_from(&three), Ok(0));
+        let other_later = [(0, 3, low), (0, 9, PAYLOAD), (1, 0, low), (2, 15, high)];
+        assert_eq!(setpoint_from(&other_later), Ok(-5));
+        let too_few = [(0, 3, low), (0, 9, PAYLOAD), (1, 0, low), (2, 15, OTHER)];
+        assert_eq!(setpoint_from(&too_few), Err(Refusal::TooFewSetpoints));
+    }
+
+    #[test]
+    fn setpoints_are_refused_in_order() {
+        let (good, bad) = (config(4, 1, 0, 1), config(5, 1, 1, 1));
+        let mut records = [[0; 32]; 64];
+        assert_eq!(setpoint_code(&good, records.as_flattened()), 27);
+        records[63] = record(1, 1, setpoint_payload(0));
+        assert_eq!(setpoint_code(&good, records.as_flattened()), 21);
+        assert_eq!(setpoint_code(&good, &records.as_flattened()[1..]), 20);
+        assert_eq!(setpoint_code(&bad, &records.as_flattened()[1..]), 1);
+        assert_eq!(setpoint_code(&config(1, 0, 0, 0), &[0; 512]), 27);
+    }
+
+    #[test]
+    fn the_code_of_a_setpoint_is_above_every_refusal() {
+        for (value, code) in [(0, 65536), (-5, 0x1fffb), (2100, 67636), (-1, 131_071)] {
+            let mut records = [[0; 32]; 16];
+            records[7] = record(2, 1, setpoint_payload(value));
+            assert_eq!(
+                setpoint_code(&config(1, 0, 0, 0), records.as_flattened()),
+                code
+            );
         }
     }
 

@@ -1,5 +1,6 @@
 //! The exported functions beside the reference: code, records and outgoing bytes of each call, on calls made from a seed. A preview is
-//! compared besides with taking on a copy of the records, by each of the two, and the records have to stay.
+//! compared besides with taking on a copy of the records, by each of the two, and the records have to stay. One setpoint from many is about
+//! whole buffers of records, and is compared on such, apart from the other calls.
 //!
 //! `MBRB_CALLS` sets how many calls, `MBRB_SEED` another seed, both decimal. With fewer than three hundred thousand calls some code,
 //! record, quorum or n may be too rare, and the test fails for that.
@@ -16,6 +17,8 @@ mod node;
 mod quorums;
 #[path = "compare/records.rs"]
 mod records;
+#[path = "compare/setpoints/mod.rs"]
+mod setpoints;
 #[path = "compare/system.rs"]
 mod system;
 #[path = "compare/tally.rs"]

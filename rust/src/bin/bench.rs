@@ -90,6 +90,13 @@ fn reference_preview(
     reference::preview_code(&config, bundle, records, out)
 }
 
+#[no_mangle]
+#[inline(never)]
+fn reference_setpoint(n: u8, t: u8, d: u8, own: u8, day: u32, q: u32, records: &[u8]) -> u32 {
+    let config = config_from(n, t, d, own, day, q);
+    reference::setpoint_code(&config, records)
+}
+
 #[derive(Clone, Copy)]
 enum Side {
     Proved,
@@ -109,13 +116,15 @@ enum Kind {
     Broadcast,
     Receive,
     Preview,
+    Setpoint,
 }
 
-/// Calls of one kind that all have the same code, and the buffers as they find them.
+/// Calls of one kind that all have the same code, but for setpoints, and the buffers as they find them.
 struct Row {
     name: String,
     kind: Kind,
     n: u8,
+    /// The least code where they differ: setpoints are above every refusal.
     code: u32,
     calls: Vec<Ready>,
     buffers: Vec<Vec<u8>>,
@@ -246,7 +255,30 @@ fn openings(name: &str, n: u8) -> Row {
             .flat_map(|_| random.word().to_ne_bytes())
             .collect()
     };
-    let buffers: Vec<Vec<u8>> = (0..CALLS / usize::from(n)).map(buffer).collect();
+    let buffers = (0..CALLS / usize::from(n)).map(buffer).collect();
+    once_each(name, Kind::Open, config, 0, buffers)
+}
+
+/// One setpoint from many, on buffers in which each record is a setpoint delivered with any value.
+fn setpoints(name: &str, n: u8) -> Row {
+    let mut random = Random::new(4);
+    let config = config_of(n, 1);
+    let mut setpoint = |sender| {
+        let [high, low, ..] = random.word().to_be_bytes();
+        let mut payload = [0; 16];
+        payload[..3].copy_from_slice(&[1, high, low]);
+        record(&config, sender, Found::Delivered(config.quorum()), &payload)
+    };
+    let buffer = |_| {
+        let slots = (0..n).flat_map(|sender| [sender; SLOTS as usize]);
+        slots.flat_map(&mut setpoint).collect()
+    };
+    let buffers = (0..CALLS / usize::from(n)).map(buffer).collect();
+    once_each(name, Kind::Setpoint, config, 1 << 16, buffers)
+}
+
+/// A call on each of the buffers, with nothing else for input.
+fn once_each(name: &str, kind: Kind, config: Config, code: u32, buffers: Vec<Vec<u8>>) -> Row {
     let calls = (0..buffers.len())
         .map(|buffer| Ready {
             config,
@@ -256,9 +288,9 @@ fn openings(name: &str, n: u8) -> Row {
         .collect();
     Row {
         name: name.to_string(),
-        kind: Kind::Open,
-        n,
-        code: 0,
+        kind,
+        n: config.n,
+        code,
         calls,
         buffers,
     }
@@ -289,6 +321,7 @@ fn rows() -> Vec<Row> {
             .chain(answers(Kind::Receive, "taking", n))
             .chain(answers(Kind::Preview, "preview", n))
             .chain(announcing)
+            .chain([setpoints("setpoint", n)])
     };
     [4, 64].into_iter().flat_map(rows_of).collect()
 }
@@ -330,25 +363,36 @@ impl Row {
         let open_by_numbers = |c: &Config, records: &mut [u8]| {
             reference_open(c.n, c.t, c.d, c.own, c.day, c.q, records)
         };
+        let setpoint_by_numbers = |c: &Config, records: &mut [u8]| {
+            reference_setpoint(c.n, c.t, c.d, c.own, c.day, c.q, records)
+        };
         match (side, self.kind) {
             (Side::Proved, Kind::Open) => each!(without_input!(host::open)),
             (Side::Proved, Kind::Broadcast) => each!(host::broadcast),
             (Side::Proved, Kind::Receive) => each!(host::receive),
             (Side::Proved, Kind::Preview) => each!(host::preview),
+            (Side::Proved, Kind::Setpoint) => each!(without_input!(host::setpoint)),
             (Side::Reference, Kind::Open) => each!(without_input!(open_by_numbers)),
             (Side::Reference, Kind::Broadcast) => each!(by_numbers!(reference_broadcast)),
             (Side::Reference, Kind::Receive) => each!(by_numbers!(reference_receive)),
             (Side::Reference, Kind::Preview) => each!(by_numbers!(reference_preview)),
+            (Side::Reference, Kind::Setpoint) => each!(without_input!(setpoint_by_numbers)),
         }
     }
 
-    /// The codes are what the row says, and previews leave the buffers as they were.
+    /// The codes are what the row says, and calls that only look leave the buffers as they were.
     fn check(&self, side: Side) {
         let mut buffers = self.buffers.clone();
         self.run(side, &mut buffers, &mut [0; 32], |code| {
-            assert_eq!(code, self.code, "{}, n = {}", self.name, self.n);
+            let low = if self.kind == Kind::Setpoint {
+                0xffff
+            } else {
+                0
+            };
+            assert_eq!(code & !low, self.code, "{}, n = {}", self.name, self.n);
         });
-        let written = self.kind == Kind::Preview && buffers != self.buffers;
+        let looks = matches!(self.kind, Kind::Preview | Kind::Setpoint);
+        let written = looks && buffers != self.buffers;
         assert!(!written, "{}, n = {}: a record changed", self.name, self.n);
     }
 
@@ -383,10 +427,12 @@ impl Row {
             (Side::Proved, Kind::Broadcast) => ("proved", "mbrb_broadcast"),
             (Side::Proved, Kind::Receive) => ("proved", "mbrb_receive"),
             (Side::Proved, Kind::Preview) => ("proved", "mbrb_preview"),
+            (Side::Proved, Kind::Setpoint) => ("proved", "mbrb_setpoint"),
             (Side::Reference, Kind::Open) => ("reference", "reference_open"),
             (Side::Reference, Kind::Broadcast) => ("reference", "reference_broadcast"),
             (Side::Reference, Kind::Receive) => ("reference", "reference_receive"),
             (Side::Reference, Kind::Preview) => ("reference", "reference_preview"),
+            (Side::Reference, Kind::Setpoint) => ("reference", "reference_setpoint"),
         };
         let output = Command::new("valgrind")
             .args(["--tool=callgrind", "--callgrind-out-file=/dev/null"])

@@ -64,7 +64,7 @@ fn toggle(bundle: &mut [u8], signers: u64) {
 }
 
 /// A good config made bad, half the time by its quorum alone; else by another of its conditions or by sums that do not fit a byte.
-fn bad_config(random: &mut Random, mut config: Config) -> Config {
+pub fn bad_config(random: &mut Random, mut config: Config) -> Config {
     let Config { n, t, d, .. } = config;
     if random.once_in(2) {
         config.q = bad_quorum(random, &config);

@@ -24,6 +24,11 @@ pub fn bytes<const LENGTH: usize>(random: &mut Random) -> [u8; LENGTH] {
 pub fn good_config(random: &mut Random) -> Config {
     let most = if random.once_in(2) { 64 } else { 8 };
     let n = 1 + random.below(most);
+    good_config_of(random, n)
+}
+
+/// A good config of so many nodes.
+pub fn good_config_of(random: &mut Random, n: usize) -> Config {
     // With nodes that faults and losses do not need there is more than one quorum.
     let needed = n - [0, 3][random.below(2)].min(n - 1);
     let t = up_to(random, (needed - 1) / 3);

@@ -4,6 +4,7 @@ use crate::adversary::Adversary;
 use crate::chance::{mostly, mostly_the_most, pick, pick_some};
 use crate::network::Network;
 use crate::run::Run;
+use crate::setpoints::setpoint;
 use crate::trace::{Payload, Step, System};
 use mbrb::random::Random;
 use mbrb::Config;
@@ -19,6 +20,15 @@ pub enum Quorum {
     OneAbove,
 }
 
+/// What is announced.
+#[derive(Clone, Copy, PartialEq, Eq)]
+pub enum Announced {
+    /// at most two payloads, from few
+    Few,
+    /// setpoints, by most nodes and some of them more than once; what faulty nodes announce is far from the others
+    Setpoints,
+}
+
 /// How a list is made, apart from chance.
 #[derive(Clone, Copy)]
 pub struct Rules {
@@ -29,6 +39,7 @@ pub struct Rules {
     pub tables: &'static [(u8, u8, u8)],
     /// Every list goes on until each sending has reached enough nodes.
     pub always_drained: bool,
+    pub announced: Announced,
 }
 
 /// The rules of demand 3.
@@ -37,12 +48,19 @@ pub const LAWFUL: Rules = Rules {
     missed_more: 0,
     tables: &[],
     always_drained: false,
+    announced: Announced::Few,
 };
 
 pub fn list(rules: Rules, seed: u64) -> (System, Vec<Step>) {
+    let run = played(rules, seed);
+    (run.system, run.trace)
+}
+
+/// The system at the end of the list.
+pub fn played(rules: Rules, seed: u64) -> Run {
     let random = &mut Random::new(seed);
     let system = system(rules, random);
-    (system, play(system, rules, random))
+    play(system, rules, random)
 }
 
 fn system(rules: Rules, random: &mut Random) -> System {
@@ -108,32 +126,39 @@ fn any_table(random: &mut Random) -> (u8, u8, u8) {
     (n as u8, t as u8, d as u8)
 }
 
-fn play(system: System, rules: Rules, random: &mut Random) -> Vec<Step> {
-    let payloads = payloads(random);
+fn play(system: System, rules: Rules, random: &mut Random) -> Run {
+    let payloads = match rules.announced {
+        Announced::Few => Payloads::few(random),
+        Announced::Setpoints => Payloads::setpoints(random),
+    };
     let mut run = Run::new(system, given_table(&system, rules), random);
     let quorum = run.config(0).quorum();
-    let adversary = Adversary::new(&system, quorum, payloads, random);
+    let adversary = Adversary::new(&system, quorum, payloads.faulty, random);
     let missed = u32::from(system.d) + rules.missed_more;
     let mut network = match rules.always_drained || random.once_in(2) {
         true => Network::draining(&system, missed, random),
         false => Network::losing_any(random),
     };
-    let mut announcements = random.below(3);
-    for _ in 0..4 + random.below(8 * usize::from(system.n)) {
+    let nodes = usize::from(system.n);
+    let (mut announcements, more_steps) = match rules.announced {
+        Announced::Few => (random.below(3), 0),
+        Announced::Setpoints => (2 * nodes, 12 * nodes),
+    };
+    for _ in 0..4 + more_steps + random.below(8 * nodes) {
         match random.below(8) {
             0 if announcements > 0 => {
                 announcements -= 1;
-                announce(&mut run, &payloads, random);
+                announce(&mut run, &payloads.correct, random);
             }
             1..=2 => _ = network.carry(&mut run, random),
             _ => adversary.act(&mut run, random),
         }
     }
     if system.n <= 10 && random.once_in(400) {
-        use_up_a_day(&mut run, &payloads, random);
+        use_up_a_day(&mut run, &payloads.correct, random);
     }
     drain(&mut run, &mut network, &adversary, random);
-    run.trace
+    run
 }
 
 /// Hands on what was sent, and what is sent upon that, until each sending has reached enough nodes. The faulty nodes go on for a while.
@@ -147,27 +172,50 @@ fn drain(run: &mut Run, network: &mut Network, adversary: &Adversary, random: &m
     }
 }
 
-/// Few and alike, so that two nodes may well have the same: one is all zero, one a bit away from another.
-fn payloads(random: &mut Random) -> [Payload; 3] {
-    let any = u128::from(random.word()) << 64 | u128::from(random.word());
-    [
-        [0; 16],
-        any.to_be_bytes(),
-        (any ^ 1 << random.below(128)).to_be_bytes(),
-    ]
+/// What the nodes of a list announce.
+struct Payloads {
+    correct: Vec<Payload>,
+    faulty: [Payload; 3],
 }
 
-fn announce(run: &mut Run, payloads: &[Payload; 3], random: &mut Random) {
+impl Payloads {
+    /// Few and alike, so that two nodes may well have the same: one is all zero, one a bit away from another.
+    fn few(random: &mut Random) -> Payloads {
+        let any = u128::from(random.word()) << 64 | u128::from(random.word());
+        let faulty = [
+            [0; 16],
+            any.to_be_bytes(),
+            (any ^ 1 << random.below(128)).to_be_bytes(),
+        ];
+        Payloads {
+            correct: faulty.to_vec(),
+            faulty,
+        }
+    }
+
+    /// About as warm, above or below zero, but for what faulty nodes announce. Now and then it is something else than a setpoint.
+    fn setpoints(random: &mut Random) -> Payloads {
+        let usual = random.below(4_000) as i16 - 1_000;
+        let mut about = |_| setpoint(usual + random.below(200) as i16);
+        let mut correct: Vec<_> = (0..7).map(&mut about).collect();
+        correct.push([0; 16]);
+        let far = [i16::MIN, usual - 3_000, usual + 3_000, i16::MAX];
+        let faulty = [(); 3].map(|()| setpoint(far[random.below(4)]));
+        Payloads { correct, faulty }
+    }
+}
+
+fn announce(run: &mut Run, payloads: &[Payload], random: &mut Random) {
     let node = pick(run.system.correct(), random);
-    let mut payload = payloads[random.below(3)].to_vec();
+    let mut payload = payloads[random.below(payloads.len())].to_vec();
     payload.resize(mostly(16, random), 0);
     run.broadcast(node, &payload, mostly(32, random));
 }
 
 /// A node announces until it has no slot left, and once more.
-fn use_up_a_day(run: &mut Run, payloads: &[Payload; 3], random: &mut Random) {
+fn use_up_a_day(run: &mut Run, payloads: &[Payload], random: &mut Random) {
     let node = pick(run.system.correct(), random);
     for _ in 0..17 {
-        run.broadcast(node, &payloads[random.below(3)], 32);
+        run.broadcast(node, &payloads[random.below(payloads.len())], 32);
     }
 }

@@ -2,7 +2,7 @@
 //!
 //! A list of calls comes from a seed, with any quorum that its table may have; its conclusions are checked from the list alone. The same
 //! checks see violations where the quorum is one less than the least or one more than the most, and where one correct node more than d
-//! misses each sending.
+//! misses each sending. On a twentieth as many lists the nodes announce setpoints, and what each makes of them at the end is checked.
 //!
 //! MBRB_LISTS sets how many lists there are, MBRB_SEED the first one's seed.
 
@@ -12,12 +12,14 @@ mod demand3;
 mod lists;
 mod network;
 mod run;
+mod setpoints;
 mod tally;
 mod trace;
 
 use demand3::{Conclusion, History, Violation};
-use lists::{list, Quorum, Rules, LAWFUL};
+use lists::{list, played, Announced, Quorum, Rules, LAWFUL};
 use mbrb::setting;
+use setpoints::Outcomes;
 use std::time::Instant;
 use tally::Tally;
 use trace::{Call, Fields, Slot, Step, System, ANNOUNCED, DELIVERED, KEPT, SIGNED};
@@ -75,6 +77,41 @@ fn no_violation_in_100_000_lists() {
     println!("{tally}");
     println!("no violation, {:.1?}", started.elapsed());
     tally.assert_not_vacuous();
+}
+
+/// Small ones: each node announces, so that there are far more calls than elsewhere.
+const SETPOINT_TABLES: &[(u8, u8, u8)] = &[
+    (3, 0, 1),
+    (4, 1, 0),
+    (5, 1, 0),
+    (6, 1, 1),
+    (7, 2, 0),
+    (8, 1, 2),
+    (8, 2, 0),
+    (9, 2, 1),
+];
+
+#[test]
+fn no_outcome_is_past_what_correct_nodes_announced() {
+    let started = Instant::now();
+    let rules = Rules {
+        tables: SETPOINT_TABLES,
+        announced: Announced::Setpoints,
+        ..LAWFUL
+    };
+    let lists = setting("MBRB_LISTS", 100_000) / 20;
+    let mut outcomes = Outcomes::default();
+    for seed in (first_seed()..).take(lists as usize) {
+        let run = played(rules, seed);
+        if let Err(reason) = demand3::lawful(&run.system, &run.trace) {
+            panic!("seed {seed}: {reason}");
+        }
+        if let Err(reason) = outcomes.add(&run) {
+            panic!("seed {seed}, {}: {reason}", run.system);
+        }
+    }
+    println!("{outcomes}, {:.1?}", started.elapsed());
+    outcomes.assert_not_vacuous();
 }
 
 /// A list written by hand, of nodes 0 and 1 of four, of which 3 is faulty: the steps need not be what the functions would answer.

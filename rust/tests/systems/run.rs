@@ -68,6 +68,16 @@ impl Run {
         self.note(node, Call::Receive { bundle }, code, out);
     }
 
+    /// The code of one setpoint from many at a node that bears so many faults; None before its day is opened. It is no call of the list.
+    pub fn setpoint(&self, node: u8, t: u8) -> Option<u32> {
+        let config = Config {
+            t,
+            ..self.config(node)
+        };
+        let opened = self.opened & bit(node) != 0;
+        opened.then(|| host::setpoint(&config, &self.records[usize::from(node)]))
+    }
+
     /// The first call at a node, and only that one, opens its day.
     fn open(&mut self, node: u8) {
         if self.opened & bit(node) == 0 {

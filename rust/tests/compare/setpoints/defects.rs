@@ -1,0 +1,197 @@
+//! What the refusals of one setpoint from many are about, but for too few setpoints.
+
+use super::buffers::{setpoint, Buffer, Sender};
+use crate::damage::bad_config;
+use crate::quorums::Choice;
+use crate::records::{Clause, Slot, CLAUSES};
+use mbrb::{random::Random, Config};
+
+#[derive(Clone, Copy, Debug, PartialEq, Eq, PartialOrd, Ord)]
+pub enum Defect {
+    Table(Cause),
+    Length(Length),
+    Malformed(Clause, Place),
+}
+
+impl Defect {
+    /// The refusal that it is about.
+    pub fn number(self) -> u32 {
+        match self {
+            Defect::Table(_) => 1,
+            Defect::Length(_) => 20,
+            Defect::Malformed(..) => 21,
+        }
+    }
+}
+
+/// Why a table is not good, the first of the reasons that apply.
+#[derive(Clone, Copy, Debug, PartialEq, Eq, PartialOrd, Ord)]
+pub enum Cause {
+    NoNode,
+    TooManyNodes,
+    Own,
+    Faults,
+    Losses,
+    /// Faults and losses are too many, and a byte is too small to tell.
+    SumWraps,
+    Quorum(Choice),
+}
+
+impl Cause {
+    fn of(config: &Config) -> Option<Cause> {
+        let [n, t, d] = [config.n, config.t, config.d].map(u32::from);
+        let needed = 3 * t + 2 * d;
+        Some(match config.n {
+            0 => Cause::NoNode,
+            65.. => Cause::TooManyNodes,
+            _ if config.own >= config.n => Cause::Own,
+            _ if n <= needed && n > needed % 256 => Cause::SumWraps,
+            _ if n <= 3 * t => Cause::Faults,
+            _ if n <= needed => Cause::Losses,
+            _ => Cause::Quorum(Choice::of(config).filter(|choice| !choice.is_allowed())?),
+        })
+    }
+}
+
+/// How many bytes are lent in place of all.
+#[derive(Clone, Copy, Debug, PartialEq, Eq, PartialOrd, Ord)]
+pub enum Length {
+    Nothing,
+    SenderLess,
+    RecordLess,
+    ByteLess,
+    ByteMore,
+    RecordMore,
+    SenderMore,
+}
+
+pub const LENGTHS: [Length; 7] = [
+    Length::Nothing,
+    Length::SenderLess,
+    Length::RecordLess,
+    Length::ByteLess,
+    Length::ByteMore,
+    Length::RecordMore,
+    Length::SenderMore,
+];
+
+impl Length {
+    fn in_place_of(self, right: usize) -> usize {
+        match self {
+            Length::Nothing => 0,
+            Length::SenderLess => right - 512,
+            Length::RecordLess => right - 32,
+            Length::ByteLess => right - 1,
+            Length::ByteMore => right + 1,
+            Length::RecordMore => right + 32,
+            Length::SenderMore => right + 512,
+        }
+    }
+}
+
+/// Where a record is malformed.
+#[derive(Clone, Copy, Debug, PartialEq, Eq, PartialOrd, Ord)]
+pub enum Place {
+    First,
+    Last,
+    /// All other records of the sender are empty.
+    OfSilent,
+    /// The sender has sent something else than setpoints.
+    OfUncounted,
+    BelowCounted,
+    Counted,
+    AboveCounted,
+}
+
+pub const PLACES: [Place; 7] = [
+    Place::First,
+    Place::Last,
+    Place::OfSilent,
+    Place::OfUncounted,
+    Place::BelowCounted,
+    Place::Counted,
+    Place::AboveCounted,
+];
+
+impl Place {
+    /// Sender and number of such a record, where there is one.
+    fn slot(self, random: &mut Random, senders: &[Sender]) -> Option<(u8, usize)> {
+        let last = senders.len() - 1;
+        let sender = match self {
+            Place::First => return Some((0, 0)),
+            Place::Last => return Some((last as u8, 15)),
+            _ => random.below(last + 1),
+        };
+        // The senders take turns from any one on.
+        let turns = (sender..=last).chain(0..sender);
+        turns.map(|at| (at, &senders[at])).find_map(|(at, sender)| {
+            let seq = self.seq(random, sender)?;
+            Some((at as u8, seq))
+        })
+    }
+
+    fn seq(self, random: &mut Random, sender: &Sender) -> Option<usize> {
+        let silent = sender.contents.is_empty();
+        match (self, sender.counted) {
+            (Place::OfSilent, None) if silent => Some(random.below(16)),
+            (Place::OfUncounted, None) if !silent => Some(random.below(16)),
+            (Place::BelowCounted, Some((seq @ 1.., _))) => Some(random.below(seq)),
+            (Place::Counted, Some((seq, _))) => Some(seq),
+            (Place::AboveCounted, Some((seq @ ..15, _))) => Some(15 - random.below(15 - seq)),
+            _ => None,
+        }
+    }
+}
+
+/// Does one thing to the buffer that a refusal is about, each at most once and where there is room for it.
+pub fn damage(random: &mut Random, buffer: &mut Buffer) {
+    let (number, spoil): (_, fn(&mut Random, &mut Buffer)) = match random.below(4) {
+        0 => (1, spoil_table),
+        1 => (20, spoil_length),
+        _ => (21, spoil_record),
+    };
+    let mut done = buffer.defects.iter().map(|defect| defect.number());
+    if done.all(|other| other != number) {
+        spoil(random, buffer);
+    }
+}
+
+fn spoil_table(random: &mut Random, buffer: &mut Buffer) {
+    buffer.config = bad_config(random, buffer.config);
+    // With the length that is right for it, the table alone is to blame.
+    if buffer.defects.is_empty() && random.once_in(2) {
+        buffer.lent = 512 * usize::from(buffer.config.n);
+        let room = buffer.bytes.len().max(buffer.lent);
+        buffer.bytes.resize(room, 0);
+    }
+    let cause = Cause::of(&buffer.config).expect("a reason why it is not good");
+    buffer.defects.push(Defect::Table(cause));
+}
+
+fn spoil_length(random: &mut Random, buffer: &mut Buffer) {
+    let length = LENGTHS[random.below(LENGTHS.len())];
+    buffer.lent = length.in_place_of(512 * buffer.senders.len());
+    buffer.defects.push(Defect::Length(length));
+}
+
+fn spoil_record(random: &mut Random, buffer: &mut Buffer) {
+    let place = PLACES[random.below(PLACES.len())];
+    let clause = CLAUSES[random.below(CLAUSES.len())];
+    let slot = place.slot(random, &buffer.senders);
+    // What makes a record malformed is known only while the table is good.
+    let Some((sender, seq)) = slot.filter(|_| buffer.config.good()) else {
+        return;
+    };
+    // Where it is passed over, or taken for well-formed, its value may be missing or count.
+    let payload = &setpoint(buffer.any_value(random));
+    let config = &buffer.config;
+    let slot = Slot {
+        config,
+        sender,
+        payload,
+    };
+    if let Some(record) = slot.malformed(random, clause) {
+        buffer.put_bytes(sender, seq, &record);
+        buffer.defects.push(Defect::Malformed(clause, place));
+    }
+}
