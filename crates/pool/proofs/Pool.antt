@@ -9,7 +9,7 @@ use native.Mathlib.Omega.{arith}
 use lib.Dec.{ltb, eqb, lit≤}
 use lib.IntN.{ℤ}
 use lib.ListN.{length, take}
-use borrow.Author.Tests.{eq-eqb, ne-eqb, lt-ltb, le-ltb, ltb-true, ltb-false}
+use borrow.Author.Tests.{eq-eqb, ne-eqb, lt-ltb, le-ltb}
 use Rattle.octets.specs.Octets.{part}
 use Rattle.octets.proofs.Numbers.{part-part}
 use Rattle.refusal.specs.Outcome.{Outcome, refused, done}
@@ -19,38 +19,40 @@ use Rattle.config.specs.declared.Config.{Config}
 use Rattle.config.specs.declared.Slot.{Slot}
 use Rattle.config.specs.Config.{good, slots, slotOfDay, inRange, place, recordSize, recordsSize}
 use Rattle.config.proofs.Laws.{in-range}
+use Rattle.protocol.specs.Trace.{each}
 use Rattle.protocol.specs.Update.{isDelivered}
+use Rattle.protocol.proofs.ComputedTests.{each-says}
 use Rattle.record.specs.Record.{decoded, wellFormed, payloadAt, payloadField}
 use Rattle.calls.specs.Records.{recordAt}
 use Rattle.calls.specs.Showing.{delivered, deliveredPart}
 use Rattle.calls.proofs.Refusals.{delivered-not, delivered-done}
 use Rattle.setpoint.specs.Setpoint.{setpointIn, isSetpoint}
 use Rattle.middle.specs.Middle.{lowerMiddle}
-use Rattle.pool.specs.Pool.{everyBelow, deliveredSetpoint, deliveredSetpoints, latest, pooled, pool, slotWellFormed, senderWellFormed, allWellFormed, setpointReasons, setpoint}
+use Rattle.pool.specs.Pool.{deliveredSetpoint, deliveredSetpoints, latest, pooled, pool, slotWellFormed, senderWellFormed, allWellFormed, setpointReasons, setpoint}
 use Rattle.pool.specs.Inner.{foundIn}
 
--- ---- every number below n
+-- ---- a test of each number below n
 
-pub every-next : (n : ℕ) (test : ℕ → Bool) → everyBelow n test ≡ true → test n ≡ true → everyBelow (n + 1) test ≡ true
-unfolding everyBelow
-every-next n test below here = rw (add-one n, here) below
+pub each-next : (n : ℕ) (test : ℕ → Bool) → each test n ≡ true → test n ≡ true → each test (n + 1) ≡ true
+unfolding each
+each-next n test below here = rw (add-one n, here) below
 
-pub every-fails : (n k : ℕ) (test : ℕ → Bool) → k < n → test k ≡ false → everyBelow n test ≡ false
-unfolding everyBelow
-every-fails zero k test h fails = absurd (omega arith)
-every-fails (suc n) k test h fails = go (test n) refl (ltb k n) refl (every-fails n k test)
+pub each-fails : (n k : ℕ) (test : ℕ → Bool) → k < n → test k ≡ false → each test n ≡ false
+each-fails n k test h fails = go (each test n) refl
   where
-    go : (m : Bool) → test n ≡ m → (less : Bool) → ltb k n ≡ less → (k < n → test k ≡ false → everyBelow n test ≡ false) → (m && everyBelow n test) ≡ false
-    go false p less q rest = refl
-    go true p true q rest = rest (ltb-true k n q) fails
-    go true p false q rest =
-        let last : k ≡ n = omega (arith, ltb-false k n q) in
-        absurd (true≢false (sym p ∙ (ap test (sym last) ∙ fails)))
+    go : (m : Bool) → each test n ≡ m → each test n ≡ false
+    go true p = absurd (true≢false (sym (each-says test n k p h) ∙ fails))
+    go false p = p
+
+pub each-passes : (n : ℕ) (test : ℕ → Bool) → ((k : ℕ) → k < n → test k ≡ true) → each test n ≡ true
+unfolding each
+each-passes zero test all = refl
+each-passes (suc n) test all = rw (all n (omega arith)) (each-passes n test (λ k h. all k (omega arith)))
 
 -- ---- a sender's records, one by one
 
 -- no payload says no setpoint
-none-said : setpointIn [] ≡ []
+pub none-said : setpointIn [] ≡ []
 unfolding setpointIn isSetpoint
 none-said = refl
 

@@ -1,6 +1,6 @@
 -- RULES section 18: one setpoint from what a node has delivered.
 -- Assumes nothing.
-use mathlib.Core.Bool.{Bool, true, not, _&&_}
+use mathlib.Core.Bool.{Bool, not}
 use mathlib.Core.List.{List, [], _∷_, _++_}
 use Prim.Native.Nat.{ℕ, zero, suc, _+_, _*_}
 use lib.Dec.{ltb}
@@ -10,6 +10,7 @@ use Rattle.refusal.specs.Refusal.{numberOf}
 use Rattle.refusal.specs.Outcome.{Outcome, refused, done, Reason, _if_, unless}
 use Rattle.config.specs.declared.Config.{Config}
 use Rattle.config.specs.Config.{good, slots, slotOfDay}
+use Rattle.protocol.specs.Trace.{each}
 use Rattle.record.specs.Record.{wellFormed}
 use Rattle.calls.specs.Records.{recordAt, wrongSize}
 use Rattle.calls.specs.Showing.{deliveredPart}
@@ -17,11 +18,6 @@ use Rattle.setpoint.specs.Setpoint.{setpointIn}
 use Rattle.middle.specs.Middle.{lowerMiddle}
 use Rattle.pool.specs.declared.Pooled.{Pooled}
 use Rattle.pool.specs.declared.Pooled.the-variants.{Value, Refused}
-
--- a test passes for every number below n
-unfoldable pub everyBelow : (n : ℕ) → (ℕ → Bool) → Bool
-everyBelow zero test = true
-everyBelow (suc n) test = test n && everyBelow n test
 
 module _ (config : Config) (records : List ℕ) where
   -- R18.4: the setpoint that is delivered in a slot, and none if showing gives no payload there (R9.2) or one that says something else
@@ -50,10 +46,10 @@ module _ (config : Config) (records : List ℕ) where
   slotWellFormed sender seq = wellFormed config sender (recordAt config (slotOfDay config sender seq) records)
 
   unfoldable pub senderWellFormed : (sender : ℕ) → Bool
-  senderWellFormed sender = everyBelow slots (slotWellFormed sender)
+  senderWellFormed sender = each (slotWellFormed sender) slots
 
   unfoldable pub allWellFormed : Bool
-  allWellFormed = everyBelow (config .n) senderWellFormed
+  allWellFormed = each senderWellFormed (config .n)
 
   -- R18.7: what it tests
   unfoldable pub setpointReasons : List Reason

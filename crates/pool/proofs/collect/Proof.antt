@@ -16,9 +16,10 @@ use mir.Syntax.{w16}
 use mir.Val.{ofZ, toZ}
 use Rattle.config.specs.declared.Config.{Config}
 use Rattle.config.proofs.Laws.{good-says}
-use Rattle.pool.specs.Pool.{everyBelow, latest, pooled, pool, senderWellFormed, allWellFormed}
+use Rattle.protocol.specs.Trace.{each}
+use Rattle.pool.specs.Pool.{latest, pooled, pool, senderWellFormed, allWellFormed}
 use Rattle.pool.specs.Inner.{foundIn, Scanned, Collects}
-use Rattle.pool.proofs.Pool.{every-next, every-fails, pooled-next}
+use Rattle.pool.proofs.Pool.{each-next, each-fails, pooled-next}
 use Rattle.pool.proofs.collect.Statement.{statement}
 use Rattle.pool.proofs.collect.Tie as tie
 use Rattle.pool.proofs.scan.Reads as scan-reads
@@ -26,7 +27,7 @@ use Rattle.pool.proofs.scan.Reads as scan-reads
 abbrev Inv-loop : tie.InvT-loop
 Inv-loop config records values₀ count₀ sender₀ values count sender =
     (sender ≤ config .n) × (count ≤ sender) × (length values ≡ 64)
-    × (everyBelow sender (senderWellFormed config records) ≡ true)
+    × (each (senderWellFormed config records) sender ≡ true)
     × (take count values ≡ pooled config records sender)
 
 abbrev μ-loop : tie.MeasureT-loop
@@ -82,7 +83,7 @@ module _ (c : tie.After-scan Inv-loop μ-loop) where
 -- ---- the needs
 
 loop-holds : tie.Need-loop-holds Inv-loop μ-loop
-unfolding everyBelow pooled
+unfolding each pooled
 loop-holds c = (omega arith, omega arith, c .before .pre .1 .1, refl, refl)
 
 scan-requires : tie.Need-scan-requires Inv-loop μ-loop
@@ -95,7 +96,7 @@ returns : tie.Need-returns Inv-loop μ-loop
 unfolding allWellFormed
 returns c =
     let scanned = c .before .before in
-    every-fails (config scanned .n) (sender scanned) (senderWellFormed (config scanned) (records scanned)) (scanned .before .if1 .taken)
+    each-fails (config scanned .n) (sender scanned) (senderWellFormed (config scanned) (records scanned)) (scanned .before .if1 .taken)
     (sym (scanned .scan .ensures .formedness) ∙ not-true _ (c .if2 .taken))
 
 mul-value : tie.Need-mul-value Inv-loop μ-loop
@@ -121,7 +122,7 @@ loop-again c =
       omega arith,
       ⊎-elim (λ w. omega arith) (λ w. omega arith) (c .if3 .came),
       length-set (at .loop .values) (at .loop .count) _ ∙ at .loop .inv .2,
-      every-next (sender scanned) (senderWellFormed (config scanned) (records scanned)) (at .loop .inv .3) (sym (scanned .scan .ensures .formedness) ∙ formed),
+      each-next (sender scanned) (senderWellFormed (config scanned) (records scanned)) (at .loop .inv .3) (sym (scanned .scan .ensures .formedness) ∙ formed),
       ⊎-elim
           (λ w. ap (λ (k : ℕ). take k (stored scanned)) (w .1) ∙ counted scanned (w .0 .taken) formed)
           (λ w. ap (λ (k : ℕ). take k (stored scanned)) (w .1) ∙ passed-over scanned (w .0 .left) formed)

@@ -16,6 +16,7 @@ use Rattle.config.specs.declared.Config.{Config}
 use Rattle.config.specs.declared.Slot.{Slot}
 use Rattle.config.specs.Config.{good, slots, slotOfDay, inRange, slotPlace, place, recordSize, recordsSize}
 use Rattle.config.proofs.Laws.{in-range, place-slot}
+use Rattle.protocol.specs.Trace.{each}
 use Rattle.protocol.specs.Update.{isDelivered}
 use Rattle.payload.specs.Payload as payload
 use Rattle.record.specs.declared.Record.{Record}
@@ -25,9 +26,9 @@ use Rattle.calls.specs.Records.{recordAt}
 use Rattle.calls.proofs.Records.{place-fits}
 use Rattle.calls.proofs.RecordBounds.{loaded-part, record-at}
 use Rattle.setpoint.specs.Setpoint.{setpointIn, valueIn}
-use Rattle.pool.specs.Pool.{everyBelow, deliveredSetpoint, deliveredSetpoints, latest, slotWellFormed, senderWellFormed}
+use Rattle.pool.specs.Pool.{deliveredSetpoint, deliveredSetpoints, latest, slotWellFormed, senderWellFormed}
 use Rattle.pool.specs.Inner.{foundIn, Scanned}
-use Rattle.pool.proofs.Pool.{every-next, every-fails, slot-setpoint, latest-found, latest-stays}
+use Rattle.pool.proofs.Pool.{each-next, each-fails, slot-setpoint, latest-found, latest-stays}
 use Rattle.pool.proofs.scan.Statement.{statement}
 use Rattle.pool.proofs.scan.Tie as tie
 use Rattle.config.proofs.Config.slot_of_day.Reads as slot-of-day-reads
@@ -39,7 +40,7 @@ use Rattle.setpoint.proofs.read.Reads as read-reads
 
 abbrev Inv-loop : tie.InvT-loop
 Inv-loop config sender records found₀ value₀ seq₀ found value seq =
-    (seq ≤ slots) × (everyBelow seq (slotWellFormed config records sender) ≡ true)
+    (seq ≤ slots) × (each (slotWellFormed config records sender) seq ≡ true)
     × (foundIn found (toZ w16 value) ≡ take 1 (deliveredSetpoints config records sender seq))
 
 abbrev μ-loop : tie.MeasureT-loop
@@ -131,7 +132,7 @@ module _ (c : tie.After-is-delivered Inv-loop μ-loop) where
 -- ---- the needs
 
 loop-holds : tie.Need-loop-holds Inv-loop μ-loop
-unfolding everyBelow deliveredSetpoints
+unfolding each deliveredSetpoints
 loop-holds c = (omega arith, refl, refl)
 
 slot-of-day-requires : tie.Need-slot-of-day-requires Inv-loop μ-loop
@@ -165,7 +166,7 @@ returns c =
     let at = placed formed-at in
     record {
       formedness =
-          sym (every-fails slots (seq at) (slotWellFormed (config at) (records at) (sender at)) (seq-known at)
+          sym (each-fails slots (seq at) (slotWellFormed (config at) (records at) (sender at)) (seq-known at)
           (sym (formed-known formed-at) ∙ not-true _ (c .if1 .taken)));
       finding = λ e. absurd (true≢false (sym e));
     }
@@ -196,7 +197,7 @@ loop-again c =
     let sized = start at .pre .1 .0 in
     let s = start at .pre .1 .1 in (
       omega arith,
-      every-next (seq at) (slotWellFormed cfg (records at) (sender at)) (at-test at .loop .inv .1) (formed (c .before)),
+      each-next (seq at) (slotWellFormed cfg (records at) (sender at)) (at-test at .loop .inv .1) (formed (c .before)),
       ⊎-elim
           (λ w.
           ap₂ (λ (f : Bool) (v : ℕ). foundIn f (toZ w16 v)) (w .5) (w .6)
