@@ -28,6 +28,7 @@ use Rattle.pool.specs.Pool.{deliveredSetpoint}
 use Rattle.pool.specs.Between.{isPooled, PooledFrom}
 use Rattle.pool.proofs.Between.{outcome-between}
 use Rattle.pool_trace.specs.Announced.{AnnouncedSetpoint, PooledWasAnnounced, OutcomeBetweenAnnounced}
+use Rattle.calls.proofs.NoEffect.{refused-showing-gives-nothing}
 use Rattle.pool.proofs.Pool.{none-said}
 use Rattle.pool_trace.proofs.Latest.{latest-delivered}
 
