@@ -284,9 +284,9 @@
  * it has heard last is dragged along by any other one whose sensors are swapped. This call gives it a middle one of
  * those that the units have announced.
  *
- * A body is a setpoint if its first byte is MBRB_SETPOINT_TAG and bytes 3 to 15 are zero. Bytes 1 and 2 are a signed
- * number of hundredths of a degree Celsius, the high byte first: 21.50 degrees are hexadecimal 0866, and -0.05 are
- * fffb. A unit announces one as it announces any body:
+ * A body is a setpoint if its first byte is MBRB_SETPOINT_TAG and bytes 3 to 15 are zero. Bytes 1 and 2 count
+ * hundredths of a degree Celsius as a signed number, with the high byte first: 21.50 degrees are hexadecimal 0866, and
+ * -0.05 are fffb. A unit announces one as it announces any body:
  *
  *     const uint8_t body[MBRB_BODY_SIZE] = {MBRB_SETPOINT_TAG, (uint8_t)((uint16_t)hundredths >> 8),
  *                                           (uint8_t)hundredths};
