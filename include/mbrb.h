@@ -230,8 +230,9 @@
  *     addresses included; tests/footprint sees the same on a stack that was painted before.
  *   - Code: 1,705 bytes, 966 more where mbrb_preview is used, and 683 more where mbrb_setpoint is: each of the two
  *     is a member of its own in the library, and a host that does not call it does not link it. No vector or
- *     floating-point register is used, but in mbrb_setpoint. It clears 128 bytes of its stack by xmm0. The one symbol
- *     that the library takes from the host is memset, for mbrb_open.
+ *     floating-point register is used, but in mbrb_setpoint. It clears 128 bytes of its stack by xmm0, so call it only
+ *     where vector registers are saved for what it interrupts. The one symbol that the library takes from the host is
+ *     memset, for mbrb_open.
  *   - mbrb_receive uses 16 bytes below the stack pointer (the red zone of the calling convention), mbrb_preview 8, and
  *     mbrb_setpoint 128, counted above. Where interrupts run on the stack of what they interrupt, they must leave
  *     the 128 bytes below it alone, as the convention asks.
@@ -301,7 +302,7 @@
  * by its last setpoint if it falls silent; there is no call that takes it out.
  *
  * What comes out: with m senders in the pool, the setpoint at place (m + 1) / 2, the fraction dropped, counted from 1
- * in rising order: the one in the middle, or the lower one of two. So it is always one that a sender announced, and no
+ * in rising order: the one in the middle, or the lower one of two. So it is always one of those in the pool, and no
  * mean. MBRB_IS_SETPOINT(code) tells that it is there, and MBRB_SETPOINT(code) what it is.
  *
  * What it is worth:
@@ -317,9 +318,9 @@
  *   - With more than t faulty senders in the pool it may be anything.
  *
  * When to ask: after each MBRB_DELIVERED, once that is saved (section 4), and after a restart (section 5, step 2),
- * since the block has the records and not the outcome. Nothing else changes it, but for an opening. The table is that
- * of the other calls: the block's day and quorum, under the lock (section 3). There is nothing to save and nothing to
- * send afterwards.
+ * since the block has the records and not the outcome. Nothing else changes it, but for an opening: what is pooled is
+ * what was delivered (this is argued and not proved). The table is that of the other calls: the block's day and quorum,
+ * under the lock (section 3). There is nothing to save and nothing to send afterwards.
  *
  * Where no setpoint comes out:
  *   - 27, MBRB_TOO_FEW_SETPOINTS: fewer than 2t + 1 senders are in the pool, and t faulty ones could decide. This is no

@@ -376,7 +376,7 @@ fn setpoint_in(payload: [u8; 16]) -> Option<i16> {
     (rest == [0; 13]).then_some(i16::from_be_bytes([high, low]))
 }
 
-/// The setpoint that counts for a sender: of those it has delivered, the one with the highest number.
+/// The setpoint that counts for a sender: of its setpoints delivered here, the one with the highest number.
 // Inlined, it shares the caller's check of the config, as reading a record does.
 #[inline(always)]
 fn last_setpoint(

@@ -1,6 +1,6 @@
 // The C interface: opening a day, broadcasting and receiving through numbers and byte slices, with one code for an answer.
 //
-// include/mbrb.h declares the functions for C and C++, with that of crate mbrb_preview. A slice passes as a pointer and a length; what
+// include/mbrb.h declares the functions for C and C++, with those of crates mbrb_preview and mbrb_setpoint. A slice passes as a pointer and a length; what
 // the host must see to there is in that file.
 use calls::Announcement;
 use calls::Receipt;

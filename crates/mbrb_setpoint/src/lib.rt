@@ -3,7 +3,7 @@
 // include/mbrb.h declares the function beside those of crate mbrb. It is a crate of its own, so that a host which does not pool
 // setpoints does not link it.
 use config::Config;
-use pool::Pooled;
+use pool::Pooling;
 ghost use mathlib.Core.Path.{_≡_};
 ghost use Rattle.config.specs.Config.{configOf};
 ghost use Rattle.pool.specs.Pool.{setpoint, pooledOf};
@@ -26,11 +26,11 @@ pub extern "C" fn mbrb_setpoint(
     pooled_code(pool::setpoint(Config::new(n, t, d, own, day, quorum), records))
 }
 
-fn pooled_code(pooled: Pooled) -> u32
+fn pooled_code(pooled: Pooling) -> u32
     ensures { λ r. ⌜ r ≡ setpointCode (pooledOf pooled) ⌝ }
 {
     match pooled {
-        Pooled::Value(value) => 65536 + (signed::to_bits(value) as u32),
-        Pooled::Refused(reason) => refusal::number(reason),
+        Pooling::Value(value) => 65536 + (signed::to_bits(value) as u32),
+        Pooling::Refused(reason) => refusal::number(reason),
     }
 }

@@ -1,7 +1,7 @@
--- The outcome lies between setpoints of correct senders, since more than t senders are pooled with a value at most it, and more than t with one at least it.
--- Assumes nothing.
+-- The outcome lies between setpoints of correct senders, since more than t senders are pooled with a value at most it, and more than t with one at least it;
+-- and correct senders are enough for one. Assumes nothing.
 use mathlib.Core.Path.{_≡_, refl, sym, ap, _∙_}
-use mathlib.Core.Bool.{Bool, true, false, cond, _&&_}
+use mathlib.Core.Bool.{Bool, true, false, cond, not, _&&_}
 use mathlib.Core.List.{List, [], _∷_, _++_}
 use mathlib.Core.Logic.{_⊎_, inl, inr, ⊎-elim}
 use Prim.Native.Nat.{ℕ, zero, suc, _+_, _*_, _≤_, _<_}
@@ -10,25 +10,27 @@ use lib.Dec.{ltb}
 use lib.IntN.{ℤ}
 use lib.ListN.{length, take}
 use lib.Signed.{leZ}
-use borrow.Author.Tests.{ltb-true, ltb-false}
+use borrow.Author.Tests.{ltb-true, ltb-false, not-true}
 use Rattle.signers.specs.Sets.{NodeSet, indicator, count, both}
-use Rattle.signers.proofs.Counting.{some-correct}
+use Rattle.signers.proofs.Counting.{count-same, count-mono, count-rest, some-correct}
 use Rattle.refusal.specs.Outcome.{done}
 use Rattle.refusal.proofs.Reasons.{done-clear}
 use Rattle.config.specs.declared.Config.{Config}
 use Rattle.config.specs.Config.{slots}
+use Rattle.config.proofs.Laws.{good-says}
 use Rattle.middle.specs.Middle.{lowerMiddle}
 use Rattle.middle.specs.Sorting.{countIf}
-use Rattle.middle.proofs.Sorting.{count-append}
+use Rattle.middle.proofs.Sorting.{count-append, count-all}
 use Rattle.middle.proofs.Middle.{middle-divides}
 use Rattle.pool.specs.Pool.{deliveredSetpoints, latest, pooled, pool, setpointReasons, setpoint}
-use Rattle.pool.specs.Between.{isPooled, PooledFrom, OutcomeBetween}
+use Rattle.pool.specs.Between.{isPooled, PooledFrom, OutcomeBetween, CorrectSuffice}
+use Rattle.pool.proofs.Pool.{setpoint-done}
 
 -- ---- the pool, by its senders
 
 module _ (config : Config) (records : List ℕ) where
   -- a sender has one value in it, or none
-  latest-one : (sender : ℕ) → (latest config records sender ≡ []) ⊎ ((value : ℤ) × (latest config records sender ≡ value ∷ []))
+  pub latest-one : (sender : ℕ) → (latest config records sender ≡ []) ⊎ ((value : ℤ) × (latest config records sender ≡ value ∷ []))
   unfolding latest
   latest-one sender = go (deliveredSetpoints config records sender slots)
     where
@@ -81,6 +83,11 @@ module _ (config : Config) (records : List ℕ) where
   unfolding isPooled
   passes-pooled test sender p = let one = passes-says test sender p in rw (one .1)
 
+  -- and a sender is pooled if it has any value
+  pooled-test : (sender : ℕ) → passes (λ x. true) sender ≡ isPooled config records sender
+  unfolding passes isPooled
+  pooled-test sender = ap (ltb 0) (count-all (latest config records sender))
+
   -- among more than t senders whose value passes a test there is a correct one
   correct-passes : (faulty : NodeSet) (test : ℤ → Bool) → count (both faulty (isPooled config records)) (config .n) ≤ config .t
       → config .t < countIf test (pool config records)
@@ -108,3 +115,26 @@ outcome-between config records faulty outcome few is =
       correct-passes config records faulty (λ x. leZ x outcome) few (rw (sym middle) (omega arith)),
       correct-passes config records faulty (λ x. leZ outcome x) few (rw (sym middle) (omega arith)),
     )
+
+-- ---- enough of them
+
+module _ (config : Config) (records : List ℕ) where
+  -- the pool has a value for each sender that is pooled
+  pub pool-senders : length (pool config records) ≡ count (isPooled config records) (config .n)
+  unfolding pool
+  pool-senders =
+      sym (count-all (pooled config records (config .n)))
+      ∙ (pool-counts config records (λ x. true) (config .n)
+      ∙ count-same (passes config records (λ x. true)) (isPooled config records) (config .n) (λ u h. same u))
+    where
+      same : (u : ℕ) → passes config records (λ x. true) u ≡ isPooled config records u
+      same u = pooled-test config records u
+
+pub correct-suffice : CorrectSuffice
+correct-suffice config records faulty g sized formed few all =
+    let correct : NodeSet = λ u. not (faulty u) in
+    let rest = count-rest faulty (config .n) in
+    let more = count-mono correct (isPooled config records) (config .n) (λ u h p. all u h (not-true (faulty u) p)) in
+    let senders = pool-senders config records in
+    let bounds = good-says config g .resilient in
+    setpoint-done config records g sized formed (omega arith)

@@ -2,3 +2,4 @@
 pub mod Pool
 pub mod Between
 pub mod Range
+pub mod Stays

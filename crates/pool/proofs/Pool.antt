@@ -4,12 +4,13 @@ use mathlib.Core.Path.{_≡_, refl, sym, ap, _∙_}
 use mathlib.Core.Bool.{Bool, true, false, cond, not, _&&_, true≢false}
 use mathlib.Core.List.{List, [], _∷_, _++_}
 use Prim.Native.Nat.{ℕ, zero, suc, _+_, _*_, _≤_, _<_}
+use native.Mathlib.Nat.{le-step, lt-suc-self}
 use native.Mathlib.Numerals.{add-one}
 use native.Mathlib.Omega.{arith}
 use lib.Dec.{ltb, eqb, lit≤}
 use lib.IntN.{ℤ}
-use lib.ListN.{length, take}
-use borrow.Author.Tests.{eq-eqb, ne-eqb, lt-ltb, le-ltb}
+use lib.ListN.{length, take, length-append}
+use borrow.Author.Tests.{eq-eqb, ne-eqb, lt-ltb, le-ltb, ltb-true, ltb-false}
 use Rattle.octets.specs.Octets.{part}
 use Rattle.octets.proofs.Numbers.{part-part}
 use Rattle.refusal.specs.Outcome.{Outcome, refused, done}
@@ -26,7 +27,7 @@ use Rattle.record.specs.Record.{decoded, wellFormed, payloadAt, payloadField}
 use Rattle.calls.specs.Records.{recordAt}
 use Rattle.calls.specs.Showing.{delivered, deliveredPart}
 use Rattle.calls.proofs.Refusals.{delivered-not, delivered-done}
-use Rattle.setpoint.specs.Setpoint.{setpointIn, isSetpoint}
+use Rattle.setpoint.specs.Setpoint.{setpointIn, isSetpoint, hundredths}
 use Rattle.middle.specs.Middle.{lowerMiddle}
 use Rattle.pool.specs.Pool.{deliveredSetpoint, deliveredSetpoints, latest, pooled, pool, slotWellFormed, senderWellFormed, allWellFormed, setpointReasons, setpoint}
 use Rattle.pool.specs.Inner.{foundIn}
@@ -90,6 +91,53 @@ module _ (config : Config) (records : List ℕ) (g : good config ≡ true) (size
       → take 1 (deliveredSetpoints config records sender seq) ≡ take 1 (deliveredSetpoints config records sender (seq + 1))
   unfolding deliveredSetpoints
   latest-stays seq is = rw (add-one seq, is)
+
+-- ---- the latest setpoint, and where it is delivered
+
+module _ (config : Config) (records : List ℕ) (sender : ℕ) where
+  -- a setpoint that comes first among those with numbers below a bound is delivered in one of these slots
+  first-delivered : (bound : ℕ) (value : ℤ) → take 1 (deliveredSetpoints config records sender bound) ≡ value ∷ []
+      → (seq : ℕ) × (seq < bound) × (deliveredSetpoint config records sender seq ≡ value ∷ [])
+  unfolding deliveredSetpoints deliveredSetpoint setpointIn
+  first-delivered zero value e = absurd (let none : 0 ≡ 1 = ap length e in omega arith)
+  first-delivered (suc seq) value e = go (isSetpoint (deliveredPart config (slotOfDay config sender seq) records)) refl e (first-delivered seq value)
+    where
+      go : (m : Bool) → isSetpoint (deliveredPart config (slotOfDay config sender seq) records) ≡ m
+          → take 1 (cond m (hundredths (deliveredPart config (slotOfDay config sender seq) records) ∷ []) [] ++ deliveredSetpoints config records sender seq) ≡ value ∷ []
+          → (take 1 (deliveredSetpoints config records sender seq) ≡ value ∷ [] → (found : ℕ) × (found < seq) × (deliveredSetpoint config records sender found ≡ value ∷ []))
+          → (found : ℕ) × (found < suc seq) × (deliveredSetpoint config records sender found ≡ value ∷ [])
+      go true m e before = (seq, lt-suc-self seq, rw m e)
+      go false m e before = let found = before e in (found .0, le-step (found .1), found .2)
+
+  pub latest-delivered : (value : ℤ) → latest config records sender ≡ value ∷ []
+      → (seq : ℕ) × (seq < slots) × (deliveredSetpoint config records sender seq ≡ value ∷ [])
+  unfolding latest
+  latest-delivered value e = first-delivered slots value e
+
+  -- and where one is delivered there is a latest one
+  delivered-some : (bound seq : ℕ) (value : ℤ) → seq < bound → deliveredSetpoint config records sender seq ≡ value ∷ [] → 0 < length (deliveredSetpoints config records sender bound)
+  unfolding deliveredSetpoints
+  delivered-some zero seq value h is = absurd (omega arith)
+  delivered-some (suc bound) seq value h is = go (ltb seq bound) refl (delivered-some bound seq value)
+    where
+      long : length (deliveredSetpoint config records sender bound ++ deliveredSetpoints config records sender bound) ≡ length (deliveredSetpoint config records sender bound) + length (deliveredSetpoints config records sender bound)
+      long = length-append (deliveredSetpoint config records sender bound) (deliveredSetpoints config records sender bound)
+
+      go : (m : Bool) → ltb seq bound ≡ m → (seq < bound → deliveredSetpoint config records sender seq ≡ value ∷ [] → 0 < length (deliveredSetpoints config records sender bound))
+          → 0 < length (deliveredSetpoint config records sender bound ++ deliveredSetpoints config records sender bound)
+      go true e before = let more = before (ltb-true seq bound e) is in omega (arith, long)
+      go false e before =
+          let last : seq ≡ bound = omega (arith, ltb-false seq bound e) in
+          let one : length (deliveredSetpoint config records sender bound) ≡ 1 = ap length (ap (deliveredSetpoint config records sender) (sym last) ∙ is) in
+          omega (arith, long)
+
+  pub delivered-latest : (seq : ℕ) (value : ℤ) → seq < slots → deliveredSetpoint config records sender seq ≡ value ∷ [] → 0 < length (latest config records sender)
+  unfolding latest
+  delivered-latest seq value h is = go (deliveredSetpoints config records sender slots) (delivered-some slots seq value h is)
+    where
+      go : (xs : List ℤ) → 0 < length xs → 0 < length (take 1 xs)
+      go [] some = some
+      go (x ∷ xs) some = omega arith
 
 -- ---- one sender more
 

@@ -1,4 +1,5 @@
--- R18.8: faulty senders do not drag the outcome, as long as at most t of those pooled are faulty. It is proved in proofs/Between.antt. Why 2t + 1 setpoints are
+-- R18.8: faulty senders do not drag the outcome, as long as at most t of those pooled are faulty; and correct ones suffice for one. They are proved in
+-- proofs/Between.antt. Why 2t + 1 setpoints are
 -- asked for is in middle's specs/Sorting.antt.
 -- Assumes nothing.
 use mathlib.Core.Path.{_≡_}
@@ -12,7 +13,9 @@ use lib.Signed.{leZ}
 use Rattle.signers.specs.Sets.{NodeSet, count, both}
 use Rattle.refusal.specs.Outcome.{done}
 use Rattle.config.specs.declared.Config.{Config}
-use Rattle.pool.specs.Pool.{latest, setpoint}
+use Rattle.config.specs.Config.{good, recordsSize}
+use Rattle.middle.specs.Middle.{lowerMiddle}
+use Rattle.pool.specs.Pool.{latest, pool, allWellFormed, setpoint}
 
 -- the senders that are pooled
 unfoldable pub isPooled : Config → (records : List ℕ) → NodeSet
@@ -34,3 +37,12 @@ OutcomeBetween =
     → setpoint config records ≡ done outcome
     → ((low : ℤ) × PooledFrom config records faulty low × (leZ low outcome ≡ true))
     × ((high : ℤ) × PooledFrom config records faulty high × (leZ outcome high ≡ true))
+
+-- R18.13: at most t silent nodes do not keep it from anybody. If every correct sender is pooled, there is an outcome.
+abbrev pub CorrectSuffice : Type 0
+CorrectSuffice =
+    (config : Config) (records : List ℕ) (faulty : NodeSet)
+    → good config ≡ true → length records ≡ recordsSize config → allWellFormed config records ≡ true
+    → count faulty (config .n) ≤ config .t
+    → ((sender : ℕ) → sender < config .n → faulty sender ≡ false → isPooled config records sender ≡ true)
+    → setpoint config records ≡ done (lowerMiddle (pool config records))

@@ -2,4 +2,5 @@
 pub mod Pool
 pub mod Between
 pub mod Range
+pub mod Stays
 pub mod Inner

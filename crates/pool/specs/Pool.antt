@@ -16,8 +16,8 @@ use Rattle.calls.specs.Records.{recordAt, wrongSize}
 use Rattle.calls.specs.Showing.{deliveredPart}
 use Rattle.setpoint.specs.Setpoint.{setpointIn}
 use Rattle.middle.specs.Middle.{lowerMiddle}
-use Rattle.pool.specs.declared.Pooled.{Pooled}
-use Rattle.pool.specs.declared.Pooled.the-variants.{Value, Refused}
+use Rattle.pool.specs.declared.Pooling.{Pooling}
+use Rattle.pool.specs.declared.Pooling.the-variants.{Value, Refused}
 
 module _ (config : Config) (records : List ℕ) where
   -- R18.4: the setpoint that is delivered in a slot, and none if showing gives no payload there (R9.2) or one that says something else
@@ -65,6 +65,6 @@ module _ (config : Config) (records : List ℕ) where
   setpoint = unless setpointReasons (lowerMiddle pool)
 
 -- the outcome of each case, or the number of the refusal (R17.3)
-abbrev pub pooledOf : Pooled → Outcome ℤ
+abbrev pub pooledOf : Pooling → Outcome ℤ
 pooledOf (Value z) = done z
 pooledOf (Refused reason) = refused (numberOf reason)

@@ -1,5 +1,5 @@
-// RULES section 18: one setpoint from many. Of each sender the setpoint that was delivered last is pooled, and the outcome is
-// the lower middle of the pool.
+// RULES section 18: one setpoint from many. Of each sender the delivered setpoint with the highest number is pooled, called its
+// latest here, and the outcome is the lower middle of the pool.
 use config::Config;
 use refusal::Refusal;
 use setpoint::Setpoint;
@@ -15,31 +15,31 @@ ghost use Rattle.pool.specs.Inner.{Scanned, Collects};
 const SPACE: usize = 64;
 
 // The outcome, in hundredths of a degree Celsius, or why there is none.
-pub enum Pooled {
+pub enum Pooling {
     Value(i16),
     Refused(Refusal),
 }
 
 // R18.7: the setpoint of the whole system, from what this node has delivered. The records are lent for reading. Each of them is
 // tested, whether it counts or not.
-pub fn setpoint(config: Config, records: &[u8]) -> Pooled
+pub fn setpoint(config: Config, records: &[u8]) -> Pooling
     ensures { λ r. ⌜ pooledOf r ≡ setpointOf config (now (records .entry)) ⌝ }
 {
     if !config.good() {
-        return Pooled::Refused(Refusal::BadConfig);
+        return Pooling::Refused(Refusal::BadConfig);
     }
     if records.len() != config.records_size() {
-        return Pooled::Refused(Refusal::RecordsLength);
+        return Pooling::Refused(Refusal::RecordsLength);
     }
     let mut values = [0i16; SPACE];
     let collection = collect(config, records, &mut values);
     let Collection::Pool(count) = collection else {
-        return Pooled::Refused(Refusal::MalformedRecord);
+        return Pooling::Refused(Refusal::MalformedRecord);
     };
     if count <= 2 * (config.t as usize) {
-        return Pooled::Refused(Refusal::TooFewSetpoints);
+        return Pooling::Refused(Refusal::TooFewSetpoints);
     }
-    Pooled::Value(middle::lower_middle(&mut values[..count]))
+    Pooling::Value(middle::lower_middle(&mut values[..count]))
 }
 
 // What is collected: a pool of so many values, or nothing, since a record is malformed.
@@ -73,7 +73,7 @@ fn collect(config: Config, records: &[u8], values: &mut [i16]) -> Collection
     Collection::Pool(count)
 }
 
-// What a sender's records hold: whether all are well-formed, and the latest setpoint delivered, if one is found.
+// What a sender's records hold: whether all are well-formed, and its latest setpoint, if one is found.
 struct Latest {
     formed: bool,
     found: bool,

@@ -29,8 +29,7 @@ use Rattle.pool.specs.Between.{isPooled, PooledFrom}
 use Rattle.pool.proofs.Between.{outcome-between}
 use Rattle.pool_trace.specs.Announced.{AnnouncedSetpoint, PooledWasAnnounced, OutcomeBetweenAnnounced}
 use Rattle.calls.proofs.NoEffect.{refused-showing-gives-nothing}
-use Rattle.pool.proofs.Pool.{none-said}
-use Rattle.pool_trace.proofs.Latest.{latest-delivered}
+use Rattle.pool.proofs.Pool.{none-said, latest-delivered}
 
 -- a payload that is shown and says a setpoint was delivered
 said-delivered : (s : System) (list : Trace Call) → Orderly s list → (u sender seq : ℕ) (value : ℤ) → u < s .shared .n → called s list u ≡ true

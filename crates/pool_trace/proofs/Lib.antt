@@ -1,5 +1,5 @@
 -- The laws of what is pooled on a list of calls, and two lists that are computed.
-pub mod Latest
+pub mod SamePool
 pub mod Announced
 pub mod Outcomes
 pub mod Example

@@ -32,7 +32,7 @@ use Rattle.middle.specs.Middle.{lowerMiddle}
 use Rattle.pool.specs.Pool.{deliveredSetpoint, pool, slotWellFormed, senderWellFormed, allWellFormed}
 use Rattle.pool.proofs.Pool.{each-passes, setpoint-few, setpoint-done}
 use Rattle.pool_trace.specs.Announced.{setpointAt, RefusedByTooFewAlone, SameDeliveriesSameOutcome}
-use Rattle.pool_trace.proofs.Latest.{pool-same}
+use Rattle.pool_trace.proofs.SamePool.{pool-same}
 
 -- ---- what a pool comes to, where nothing else is in the way
 

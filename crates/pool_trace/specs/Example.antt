@@ -56,7 +56,7 @@ gets sender signers payload = Receive (bundleOf (headerOfDay fourNodes sender 0 
 unfoldable pub oneFaulty : System
 oneFaulty = four (λ node. eqb node 3)
 
--- Node 0 announces and sends 1. Node 1 signs it and sends 3; 2 delivers by that and sends 7, by which 0 and 1 deliver. The slot of node 1 goes alike.
+-- Node 0 announces, and sends its bundle with the signers 1. Node 1 signs it and sends 3; 2 delivers by that and sends 7, by which 0 and 1 deliver. The slot of node 1 goes alike.
 unfoldable pub twoPooled : Trace Call
 twoPooled =
     start

@@ -4,14 +4,14 @@ ghost use Prim.Native.Nat.{_+_, _*_};
 ghost use lib.Signed.{leZ};
 ghost use Rattle.signed.specs.Signed.{signed, bitsOf};
 
-// The number that two bytes write, high byte first (R17.9).
+// R18.2: the number that two bytes write, high byte first.
 pub fn from_bytes(high: u8, low: u8) -> i16
     ensures { λ r. ⌜ r ≡ signed (high * 256 + low) ⌝ }
 {
     from_bits((high as u16) * 256 + (low as u16))
 }
 
-// The 16 bits that write the number, as an unsigned one: the two bytes of which `from_bytes` reads it.
+// The inverse of `from_bytes`: the two bytes that write the number, as one unsigned number.
 pub fn to_bits(value: i16) -> u16
     ensures { λ r. ⌜ r ≡ bitsOf value ⌝ }
 {
@@ -28,7 +28,7 @@ pub fn at_most(first: i16, second: i16) -> bool
     first <= second
 }
 
-// Both branches leave the bits as they are, and the compiler makes nothing of them.
+// The number that 16 bits write. Both branches leave the bits as they are, so that the compiler needs no instruction for either.
 fn from_bits(bits: u16) -> i16
     ensures { λ r. ⌜ r ≡ signed bits ⌝ }
 {

@@ -40,7 +40,8 @@ CountsInOrder =
     (s : System) (list : Trace Call) → Orderly s list → (u : ℕ) (slot : Slot)
     → (times s (deliversIn s slot) list u ≤ 1) × (times s (announcesIn s slot) list u ≤ 1) × (times s (sendsIn s slot) list u ≤ 2)
 
--- R4.6: after such a list no call at a node that was called is refused by 21, since all records there are well-formed.
+-- R4.6: after such a list broadcasting, receiving and showing at a node that was called are not refused by 21, since all records there are well-formed. For
+-- pooling see pool_trace's specs/Announced.antt.
 abbrev pub NeverMalformed : Type 0
 NeverMalformed =
     (s : System) (list : Trace Call) → Orderly s list → (u : ℕ) → u < s .shared .n → called s list u ≡ true
