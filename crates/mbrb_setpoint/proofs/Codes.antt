@@ -1,20 +1,16 @@
 -- Laws of the codes: a refusal is one of four, and a setpoint is read back from its code. Assumes nothing.
 use mathlib.Core.Path.{_≡_, refl, ap, _∙_, subst}
-use mathlib.Core.Bool.{true}
-use mathlib.Core.List.{List}
-use Prim.Native.Nat.{ℕ, _+_, _-_}
+use Prim.Native.Nat.{_+_, _-_}
 use native.Mathlib.Omega.{arith}
 use lib.IntN.{ℤ}
-use Rattle.refusal.specs.Outcome.{Outcome, refused, done}
 use Rattle.refusal.proofs.Reasons.{Comes, unless-comes}
-use Rattle.config.specs.declared.Config.{Config}
 use Rattle.mbrb.specs.Code.{listed}
 use Rattle.signed.specs.Signed.{signed, bitsOf}
 use Rattle.signed.proofs.Bits.{numbers-read-back}
 use Rattle.middle.specs.Middle.{lowerMiddle}
 use Rattle.pool.specs.Pool.{pool, setpointReasons, setpoint}
 use Rattle.pool.proofs.Range.{outcome-fits}
-use Rattle.mbrb_setpoint.specs.Code.{setpointCode, setpointRefusals, RefusalsListed, SetpointReadsBack}
+use Rattle.mbrb_setpoint.specs.Code.{setpointRefusals, RefusalsListed, SetpointReadsBack}
 
 pub refusals-listed : RefusalsListed
 unfolding setpoint setpointReasons listed setpointRefusals

@@ -6,7 +6,7 @@ use config::Config;
 use pool::Pooling;
 ghost use mathlib.Core.Path.{_≡_};
 ghost use Rattle.config.specs.Config.{configOf};
-ghost use Rattle.pool.specs.Pool.{setpoint, pooledOf};
+ghost use Rattle.pool.specs.Pool.{setpoint, poolingOf};
 ghost use Rattle.mbrb_setpoint.specs.Code.{setpointCode};
 
 // Pools the setpoints that are delivered. The code is 65,536 plus the setpoint's two bytes as an unsigned number, or the
@@ -27,7 +27,7 @@ pub extern "C" fn mbrb_setpoint(
 }
 
 fn pooled_code(pooled: Pooling) -> u32
-    ensures { λ r. ⌜ r ≡ setpointCode (pooledOf pooled) ⌝ }
+    ensures { λ r. ⌜ r ≡ setpointCode (poolingOf pooled) ⌝ }
 {
     match pooled {
         Pooling::Value(value) => 65536 + (signed::to_bits(value) as u32),

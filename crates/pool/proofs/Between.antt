@@ -2,7 +2,7 @@
 -- and correct senders are enough for one. Assumes nothing.
 use mathlib.Core.Path.{_≡_, refl, sym, ap, _∙_}
 use mathlib.Core.Bool.{Bool, true, false, cond, not, _&&_}
-use mathlib.Core.List.{List, [], _∷_, _++_}
+use mathlib.Core.List.{List, [], _∷_}
 use mathlib.Core.Logic.{_⊎_, inl, inr, ⊎-elim}
 use Prim.Native.Nat.{ℕ, zero, suc, _+_, _*_, _≤_, _<_}
 use native.Mathlib.Omega.{arith}
@@ -13,7 +13,6 @@ use lib.Signed.{leZ}
 use borrow.Author.Tests.{ltb-true, ltb-false, not-true}
 use Rattle.signers.specs.Sets.{NodeSet, indicator, count, both}
 use Rattle.signers.proofs.Counting.{count-same, count-mono, count-rest, some-correct}
-use Rattle.refusal.specs.Outcome.{done}
 use Rattle.refusal.proofs.Reasons.{done-clear}
 use Rattle.config.specs.declared.Config.{Config}
 use Rattle.config.specs.Config.{slots}

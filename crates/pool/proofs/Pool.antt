@@ -1,35 +1,33 @@
 -- What is pooled, by the records: the setpoint that a record holds, one record more of a sender, one sender more; and the refusals of the call.
 -- Assumes nothing.
 use mathlib.Core.Path.{_≡_, refl, sym, ap, _∙_}
-use mathlib.Core.Bool.{Bool, true, false, cond, not, _&&_, true≢false}
+use mathlib.Core.Bool.{Bool, true, false, cond, true≢false}
 use mathlib.Core.List.{List, [], _∷_, _++_}
 use Prim.Native.Nat.{ℕ, zero, suc, _+_, _*_, _≤_, _<_}
 use native.Mathlib.Nat.{le-step, lt-suc-self}
 use native.Mathlib.Numerals.{add-one}
 use native.Mathlib.Omega.{arith}
-use lib.Dec.{ltb, eqb, lit≤}
+use lib.Dec.{ltb, lit≤}
 use lib.IntN.{ℤ}
 use lib.ListN.{length, take, length-append}
 use borrow.Author.Tests.{eq-eqb, ne-eqb, lt-ltb, le-ltb, ltb-true, ltb-false}
-use Rattle.octets.specs.Octets.{part}
 use Rattle.octets.proofs.Numbers.{part-part}
-use Rattle.refusal.specs.Outcome.{Outcome, refused, done}
+use Rattle.refusal.specs.Outcome.{refused, done}
 use Rattle.refusal.proofs.Reasons.{passed, failed, pass, stop, clear-done}
 use Rattle.payload.specs.Payload.{payloadSize}
 use Rattle.config.specs.declared.Config.{Config}
 use Rattle.config.specs.declared.Slot.{Slot}
-use Rattle.config.specs.Config.{good, slots, slotOfDay, inRange, place, recordSize, recordsSize}
-use Rattle.config.proofs.Laws.{in-range}
+use Rattle.config.specs.Config.{good, slots, slotOfDay, place, recordSize, recordsSize}
 use Rattle.protocol.specs.Trace.{each}
 use Rattle.protocol.specs.Update.{isDelivered}
 use Rattle.protocol.proofs.ComputedTests.{each-says}
-use Rattle.record.specs.Record.{decoded, wellFormed, payloadAt, payloadField}
+use Rattle.record.specs.Record.{decoded, payloadAt, payloadField}
 use Rattle.calls.specs.Records.{recordAt}
-use Rattle.calls.specs.Showing.{delivered, deliveredPart}
+use Rattle.calls.specs.Showing.{deliveredPart}
 use Rattle.calls.proofs.Refusals.{delivered-not, delivered-done}
 use Rattle.setpoint.specs.Setpoint.{setpointIn, isSetpoint, hundredths}
 use Rattle.middle.specs.Middle.{lowerMiddle}
-use Rattle.pool.specs.Pool.{deliveredSetpoint, deliveredSetpoints, latest, pooled, pool, slotWellFormed, senderWellFormed, allWellFormed, setpointReasons, setpoint}
+use Rattle.pool.specs.Pool.{deliveredSetpoint, deliveredSetpoints, latest, pooled, pool, slotWellFormed, allWellFormed, setpointReasons, setpoint}
 use Rattle.pool.specs.Inner.{foundIn}
 
 -- ---- a test of each number below n

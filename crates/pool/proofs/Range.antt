@@ -1,16 +1,16 @@
 -- Every value of the pool is written by two bytes, and so is the lower middle one. Assumes nothing.
-use mathlib.Core.Path.{_≡_, refl, sym, ap, _∙_, subst}
+use mathlib.Core.Path.{subst}
 use mathlib.Core.Bool.{Bool, true, false, cond}
-use mathlib.Core.List.{List, [], _∷_, _++_}
-use Prim.Native.Nat.{ℕ, zero, suc, _+_, _-_, _*_, _/_, _^_, _≤_, _<_}
+use mathlib.Core.List.{List, [], _∷_}
+use Prim.Native.Nat.{ℕ, zero, suc, _+_, _-_, _*_, _/_, _<_}
 use native.Mathlib.Omega.{arith}
 use lib.Dec.{ltb}
-use lib.IntN.{ℤ, pos}
-use lib.ListN.{length, getD, take}
+use lib.IntN.{ℤ}
+use lib.ListN.{length}
 use lib.Signed.{mag}
 use borrow.Author.Tests.{ltb-true, ltb-false, lt-ltb}
 use Rattle.octets.specs.Octets.{Bytes, part, number}
-use Rattle.octets.proofs.Numbers.{bytes-part, number-lt}
+use Rattle.octets.proofs.Numbers.{bytes-part}
 use Rattle.refusal.specs.Outcome.{Outcome, refused, done, after}
 use Rattle.refusal.proofs.Reasons.{done-clear}
 use Rattle.config.specs.declared.Config.{Config}

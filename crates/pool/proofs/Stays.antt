@@ -3,23 +3,22 @@ use mathlib.Core.Path.{_≡_, refl, sym, ap, _∙_}
 use mathlib.Core.Bool.{true}
 use mathlib.Core.List.{List, [], _∷_}
 use mathlib.Core.Logic.{⊎-elim}
-use Prim.Native.Nat.{ℕ, zero, suc, _+_, _≤_, _<_}
+use Prim.Native.Nat.{ℕ, _<_}
 use native.Mathlib.Omega.{arith}
-use lib.Dec.{ltb}
 use lib.IntN.{ℤ}
-use lib.ListN.{length, take, length-append}
+use lib.ListN.{length}
 use borrow.Author.Tests.{ltb-true, lt-ltb}
 use Rattle.signers.proofs.Counting.{count-mono}
 use Rattle.refusal.specs.Outcome.{Outcome, refused, done}
 use Rattle.config.specs.declared.Config.{Config}
 use Rattle.config.specs.declared.Slot.{Slot}
-use Rattle.config.specs.Config.{slots, slotOfDay}
-use Rattle.calls.specs.Showing.{delivered, deliveredPart}
+use Rattle.config.specs.Config.{slotOfDay}
+use Rattle.calls.specs.Showing.{delivered}
 use Rattle.calls.specs.Preserved.{SameShown}
 use Rattle.calls.proofs.NoEffect.{refused-showing-gives-nothing}
 use Rattle.calls.proofs.Preserved.{shown-stays}
 use Rattle.setpoint.specs.Setpoint.{setpointIn}
-use Rattle.pool.specs.Pool.{deliveredSetpoint, deliveredSetpoints, latest, pool}
+use Rattle.pool.specs.Pool.{deliveredSetpoint, latest}
 use Rattle.pool.specs.Between.{isPooled}
 use Rattle.pool.specs.Stays.{PoolKept, PoolStays}
 use Rattle.pool.proofs.Pool.{none-said, latest-delivered, delivered-latest}

@@ -65,6 +65,6 @@ module _ (config : Config) (records : List ℕ) where
   setpoint = unless setpointReasons (lowerMiddle pool)
 
 -- the outcome of each case, or the number of the refusal (R17.3)
-abbrev pub pooledOf : Pooling → Outcome ℤ
-pooledOf (Value z) = done z
-pooledOf (Refused reason) = refused (numberOf reason)
+abbrev pub poolingOf : Pooling → Outcome ℤ
+poolingOf (Value z) = done z
+poolingOf (Refused reason) = refused (numberOf reason)

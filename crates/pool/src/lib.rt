@@ -8,7 +8,7 @@ ghost use mathlib.Core.Bool.{true};
 ghost use Prim.Native.Nat.{_<_};
 ghost use lib.ListN.{length};
 ghost use Rattle.config.specs.Config.{good, recordsSize};
-ghost use Rattle.pool.specs.Pool.{setpoint as setpointOf, pooledOf};
+ghost use Rattle.pool.specs.Pool.{setpoint as setpointOf, poolingOf};
 ghost use Rattle.pool.specs.Inner.{Scanned, Collects};
 
 // How many values the pool can have: one for each node.
@@ -23,7 +23,7 @@ pub enum Pooling {
 // R18.7: the setpoint of the whole system, from what this node has delivered. The records are lent for reading. Each of them is
 // tested, whether it counts or not.
 pub fn setpoint(config: Config, records: &[u8]) -> Pooling
-    ensures { λ r. ⌜ pooledOf r ≡ setpointOf config (now (records .entry)) ⌝ }
+    ensures { λ r. ⌜ poolingOf r ≡ setpointOf config (now (records .entry)) ⌝ }
 {
     if !config.good() {
         return Pooling::Refused(Refusal::BadConfig);

@@ -1,12 +1,12 @@
 -- What a payload says, by its two words. Assumes nothing.
 use mathlib.Core.Path.{_≡_, ap, ap₂, _∙_}
-use mathlib.Core.Bool.{Bool, cond, _&&_}
-use mathlib.Core.List.{List, [], _∷_}
+use mathlib.Core.Bool.{cond, _&&_}
+use mathlib.Core.List.{[], _∷_}
 use Prim.Native.Nat.{ℕ, _+_, _*_, _/_, _%_}
 use native.Mathlib.Nat.{mod-eq-of-lt}
 use native.Mathlib.Omega.{arith}
 use lib.Dec.{eqb}
-use Rattle.octets.specs.Octets.{bytesOf, part, number, blank}
+use Rattle.octets.specs.Octets.{bytesOf, number}
 use Rattle.octets.proofs.Same.{blank-append, blank-bytesOf, blank-low}
 use Rattle.payload.specs.declared.Payload.{Payload}
 use Rattle.payload.specs.Payload.{bytes}

@@ -5,7 +5,7 @@ use mir.Facts.{toZ-ofZ}
 use mir.Syntax.{w16}
 use mir.Val.{ofZ, toZ}
 use Rattle.signed.specs.Signed.{bitsOf}
-use Rattle.pool.specs.Pool.{pooledOf}
+use Rattle.pool.specs.Pool.{poolingOf}
 use Rattle.mbrb_setpoint.specs.Code.{setpointCode}
 use borrow.Author.Needs.{needs}
 use Rattle.mbrb_setpoint.proofs.pooled_code.Statement.{statement}
@@ -36,10 +36,10 @@ returns c =
     let value = c .before .before .pooled .given .0 .0 in
     let back : toZ w16 (ofZ w16 value) ≡ value = toZ-ofZ (record { sfits = c .before .known-told .given .0 .1 }) in
     ap (λ (bits : ℕ). 0x1_0000 + bits) (c .to-bits .ensures ∙ ap bitsOf back)
-    ∙ sym (ap (λ p. setpointCode (pooledOf p)) (c .before .before .pooled .given .1))
+    ∙ sym (ap (λ p. setpointCode (poolingOf p)) (c .before .before .pooled .given .1))
 
 returns-2 : tie.Need-returns-2
-returns-2 c = c .number .ensures ∙ sym (ap (λ p. setpointCode (pooledOf p)) (c .before .before .pooled2 .given .1))
+returns-2 c = c .number .ensures ∙ sym (ap (λ p. setpointCode (poolingOf p)) (c .before .before .pooled2 .given .1))
 
 pub pooled-code-spec : {M : Type 1} → statement M
 pooled-code-spec =

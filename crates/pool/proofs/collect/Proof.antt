@@ -1,9 +1,9 @@
 -- `collect` meets its contract: the records of the senders before `sender` are well-formed, and the first `count` values are their pool. Assumes nothing.
 use mathlib.Core.Path.{_≡_, refl, sym, ap, ap₂, _∙_}
-use mathlib.Core.Bool.{Bool, true, false, cond}
+use mathlib.Core.Bool.{Bool, true, false}
 use mathlib.Core.List.{List, [], _∷_, _++_, append-nil}
 use mathlib.Core.Logic.{⊎-elim}
-use Prim.Native.Nat.{ℕ, suc, _+_, _-_, _≤_, _<_}
+use Prim.Native.Nat.{ℕ, _+_, _-_, _≤_, _<_}
 use native.Mathlib.Numerals.{add-one}
 use native.Mathlib.Omega.{arith}
 use lib.IntN.{ℤ}
@@ -17,8 +17,8 @@ use mir.Val.{ofZ, toZ}
 use Rattle.config.specs.declared.Config.{Config}
 use Rattle.config.proofs.Laws.{good-says}
 use Rattle.protocol.specs.Trace.{each}
-use Rattle.pool.specs.Pool.{latest, pooled, pool, senderWellFormed, allWellFormed}
-use Rattle.pool.specs.Inner.{foundIn, Scanned, Collects}
+use Rattle.pool.specs.Pool.{pooled, pool, senderWellFormed, allWellFormed}
+use Rattle.pool.specs.Inner.{foundIn}
 use Rattle.pool.proofs.Pool.{each-next, each-fails, pooled-next}
 use Rattle.pool.proofs.collect.Statement.{statement}
 use Rattle.pool.proofs.collect.Tie as tie

@@ -1,20 +1,19 @@
 -- `scan` meets its contract: the records before `seq` are well-formed, and the latest setpoint in them is the one found. Assumes nothing.
 use mathlib.Core.Path.{_≡_, refl, sym, ap, ap₂, _∙_}
 use mathlib.Core.Bool.{Bool, true, false, cond, true≢false}
-use mathlib.Core.List.{List, [], _∷_}
+use mathlib.Core.List.{List, []}
 use mathlib.Core.Logic.{⊎-elim}
 use Prim.Native.Nat.{ℕ, _+_, _-_, _≤_, _<_}
 use native.Mathlib.Omega.{arith}
-use lib.IntN.{ℤ}
 use lib.ListN.{length, take}
 use borrow.Author.Needs.{needs}
 use borrow.Author.Tests.{not-true, not-false}
 use mir.Facts.{toZ-ofZ}
 use mir.Syntax.{w16}
-use mir.Val.{ofZ, toZ}
+use mir.Val.{toZ}
 use Rattle.config.specs.declared.Config.{Config}
 use Rattle.config.specs.declared.Slot.{Slot}
-use Rattle.config.specs.Config.{good, slots, slotOfDay, inRange, slotPlace, place, recordSize, recordsSize}
+use Rattle.config.specs.Config.{slots, slotOfDay, inRange, slotPlace, place, recordSize}
 use Rattle.config.proofs.Laws.{in-range, place-slot}
 use Rattle.protocol.specs.Trace.{each}
 use Rattle.protocol.specs.Update.{isDelivered}
@@ -27,7 +26,7 @@ use Rattle.calls.proofs.Records.{place-fits}
 use Rattle.calls.proofs.RecordBounds.{loaded-part, record-at}
 use Rattle.setpoint.specs.Setpoint.{setpointIn, valueIn}
 use Rattle.pool.specs.Pool.{deliveredSetpoint, deliveredSetpoints, latest, slotWellFormed, senderWellFormed}
-use Rattle.pool.specs.Inner.{foundIn, Scanned}
+use Rattle.pool.specs.Inner.{foundIn}
 use Rattle.pool.proofs.Pool.{each-next, each-fails, slot-setpoint, latest-found, latest-stays}
 use Rattle.pool.proofs.scan.Statement.{statement}
 use Rattle.pool.proofs.scan.Tie as tie

@@ -2,7 +2,7 @@
 use mathlib.Core.Path.{_≡_, refl, sym, ap, _∙_, subst}
 use mathlib.Core.Bool.{true}
 use mathlib.Core.List.{List}
-use Prim.Native.Nat.{ℕ, _+_, _*_, _≤_, _<_}
+use Prim.Native.Nat.{ℕ, _≤_}
 use native.Mathlib.Omega.{arith}
 use lib.IntN.{ℤ}
 use lib.ListN.{length, take}
@@ -13,9 +13,8 @@ use mir.Facts.{toZ-ofZ}
 use Rattle.refusal.specs.Outcome.{done}
 use Rattle.config.specs.declared.Config.{Config}
 use Rattle.config.specs.Config.{good, recordsSize}
-use Rattle.config.proofs.Laws.{good-says}
 use Rattle.middle.specs.Middle.{lowerMiddle}
-use Rattle.pool.specs.Pool.{pool, allWellFormed, setpoint}
+use Rattle.pool.specs.Pool.{pool, allWellFormed}
 use Rattle.pool.specs.declared.Collection.{Collection}
 use Rattle.pool.specs.declared.Collection.the-variants.{Pool, Malformed}
 use Rattle.pool.specs.Inner.{Collects}
