@@ -1,6 +1,5 @@
--- R18.8: faulty senders do not drag the outcome, as long as at most t of those pooled are faulty; and correct ones suffice for one. They are proved in
--- proofs/Between.antt. Why 2t + 1 setpoints are
--- asked for is in middle's specs/Sorting.antt.
+-- R18.8: faulty senders do not drag the outcome, as long as at most t of those pooled are faulty. R18.13: correct senders are enough for one. They are proved
+-- in proofs/Between.antt. Why 2t + 1 setpoints are asked for is in middle's specs/Sorting.antt.
 -- Assumes nothing.
 use mathlib.Core.Path.{_≡_}
 use mathlib.Core.Bool.{true, false}
