@@ -224,18 +224,22 @@
  *
  *   - Memory: MBRB_RECORDS_SIZE(n) bytes of records, which the host gives. The library allocates nothing and has no
  *     data of its own.
- *   - Stack: 584 bytes for mbrb_broadcast with all sixteen numbers used (72 with none), 72 for mbrb_receive, 64 for
- *     mbrb_preview, 24 for mbrb_open, 208 for mbrb_setpoint, and for what the host's memset takes below mbrb_open;
- *     besides, up to 48 bytes of arguments that the caller puts there. These are the frames of the machine code, return
- *     addresses included; tests/footprint sees the same on a stack that was painted before.
- *   - Code: 1,705 bytes, 966 more where mbrb_preview is used, and 683 more where mbrb_setpoint is: each of the two
+ *   - Stack: 64 bytes for mbrb_broadcast, 72 for mbrb_receive, 64 for mbrb_preview, 24 for mbrb_open, 208 for
+ *     mbrb_setpoint, whatever it is given; and below mbrb_open what the host's memset takes. Besides, up to 48 bytes of
+ *     arguments that the caller puts there. Each figure is the deepest chain of frames in the machine code, return
+ *     addresses included: tests/call_graph adds them up, and tests/footprint sees the same on a stack that was painted
+ *     before.
+ *   - No recursion: none of these functions calls itself, and none that they reach does, directly or by another. No
+ *     function is called by a pointer. tests/call_graph looks at the whole call graph, that of the program which is
+ *     proved and that of the machine code.
+ *   - Code: 1,664 bytes, 966 more where mbrb_preview is used, and 683 more where mbrb_setpoint is: each of the two
  *     is a member of its own in the library, and a host that does not call it does not link it. No vector or
  *     floating-point register is used, but in mbrb_setpoint. It clears 128 bytes of its stack by xmm0, so call it only
  *     where vector registers are saved for what it interrupts. The one symbol that the library takes from the host is
  *     memset, for mbrb_open.
- *   - mbrb_receive uses 16 bytes below the stack pointer (the red zone of the calling convention), mbrb_preview 8, and
- *     mbrb_setpoint 128, counted above. Where interrupts run on the stack of what they interrupt, they must leave
- *     the 128 bytes below it alone, as the convention asks.
+ *   - mbrb_receive uses 16 bytes below the stack pointer (the red zone of the calling convention), mbrb_broadcast 8,
+ *     mbrb_preview 8, and mbrb_setpoint 128, counted above. Where interrupts run on the stack of what they interrupt,
+ *     they must leave the 128 bytes below it alone, as the convention asks.
  *   - Time: mbrb_open and mbrb_setpoint go through all records, so that theirs grows with n. mbrb_broadcast goes
  *     through our own, and the others look at one record.
  *
@@ -343,8 +347,8 @@ extern "C" {
 /* The version of this interface and of the formats below. CHANGELOG.md says what each number stands for. */
 #define MBRB_VERSION_MAJOR 2
 #define MBRB_VERSION_MINOR 1
-#define MBRB_VERSION_PATCH 0
-#define MBRB_VERSION "2.1.0"
+#define MBRB_VERSION_PATCH 1
+#define MBRB_VERSION "2.1.1"
 
 /* Sizes of the buffers, in bytes. */
 #define MBRB_BODY_SIZE 16

@@ -22,15 +22,15 @@ module _ (config : Config) (records : List ℕ) where
   -- ---- one look
 
   module _ (seq left : ℕ) where
-    look-free : blank (ownRecord config records seq) ≡ true → search config records seq (suc left) ≡ done seq
+    pub look-free : blank (ownRecord config records seq) ≡ true → search config records seq (suc left) ≡ done seq
     unfolding search
     look-free b = rw b
 
-    look-used : Used config records seq → search config records seq (suc left) ≡ search config records (suc seq) left
+    pub look-used : Used config records seq → search config records seq (suc left) ≡ search config records (suc seq) left
     unfolding search
     look-used u = rw (u .not-blank, u .formed)
 
-    look-malformed : blank (ownRecord config records seq) ≡ false → wellFormed config (config .own) (ownRecord config records seq) ≡ false
+    pub look-malformed : blank (ownRecord config records seq) ≡ false → wellFormed config (config .own) (ownRecord config records seq) ≡ false
         → search config records seq (suc left) ≡ refused 21
     unfolding search
     look-malformed b f = rw (b, f)

@@ -1,111 +1,25 @@
--- The search for a free number as the code does it, over a part of the buffer, is the search over the buffer; which records it depends on; and what a
--- broadcast that is done has passed.
+-- Which records the search for a free number depends on, and what a broadcast that is done has passed.
 -- Assumes nothing.
-use mathlib.Core.Path.{_≡_, refl, sym, ap, _∙_, subst}
+use mathlib.Core.Path.{_≡_, refl, sym, _∙_, subst}
 use mathlib.Core.Bool.{Bool, true, false, cond, true≢false}
-use mathlib.Core.List.{List, _++_}
-use Prim.Native.Nat.{ℕ, zero, suc, _+_, _-_, _*_, _/_, _%_, _≤_, _<_}
+use mathlib.Core.List.{List}
+use Prim.Native.Nat.{ℕ, zero, suc, _+_, _≤_, _<_}
 use native.Mathlib.Omega.{arith}
 use lib.Arith.{lt-of-le-ne}
-use lib.ListN.{length, take, drop, length-drop}
-use lib.Seq.{length-take-le, take-take, take-add, drop-drop, drop-append-seam}
-use borrow.Author.Tests.{eqb-true, ne-eqb, lt-ltb, le-ltb, not-false}
-use Rattle.octets.specs.Octets.{blank, part}
-use Rattle.octets.proofs.Numbers.{length-part}
+use lib.ListN.{length}
+use borrow.Author.Tests.{eqb-true, not-false}
+use Rattle.octets.specs.Octets.{blank}
 use Rattle.refusal.specs.Outcome.{Outcome, refused, done, checked, _and-then_}
 use Rattle.refusal.proofs.Reasons.{Clear, refused-not-done, done-clear}
 use Rattle.config.specs.declared.Config.{Config}
-use Rattle.config.specs.Config.{good, slots, recordSize, recordsSize, place, inRange}
+use Rattle.config.specs.Config.{good, slots, recordsSize, inRange}
 use Rattle.record.specs.Record.{wellFormed}
 use Rattle.payload.specs.Payload.{payloadSize}
 use Rattle.calls.specs.Records.{recordAt, ownSlot}
 use Rattle.calls.specs.Broadcast.{search, broadcastReasons, broadcast}
 use Rattle.calls.specs.Locality.{ends}
-use Rattle.calls.specs.Inner.{scanned, foundOf}
-use Rattle.calls.proofs.RecordBounds.{own-room, own-range, own-place, record-at}
-use Rattle.calls.proofs.Records.{place-fits}
+use Rattle.calls.proofs.RecordBounds.{own-range}
 use Rattle.calls.proofs.FreeNumber.{announced-is-lowest-free}
-
--- one look of the search over the rest: no record is left, the first is blank, it is malformed, or what comes after it decides
-module _ (config : Config) (rest : List ℕ) where
-  pub scan-none : length rest ≡ 0 → scanned config rest (length rest / recordSize) ≡ refused 25
-  unfolding scanned
-  scan-none e = rw e
-
-  module _ (whole : length rest % recordSize ≡ 0) (some : length rest ≡ 0 → ⊥) where
-    one-more : length rest / recordSize ≡ suc (length (drop recordSize rest) / recordSize)
-    one-more = simp length-drop (omega arith)
-
-    look : scanned config rest (length rest / recordSize)
-        ≡ cond (blank (take recordSize rest)) (done (slots - length rest / recordSize))
-        (cond (wellFormed config (config .own) (take recordSize rest)) (scanned config (drop recordSize rest) (length (drop recordSize rest) / recordSize)) (refused 21))
-    unfolding scanned
-    look = rw one-more
-
-    pub scan-free : blank (take recordSize rest) ≡ true → scanned config rest (length rest / recordSize) ≡ done (slots - length rest / recordSize)
-    scan-free b = look ∙ rw b
-
-    pub scan-malformed : blank (take recordSize rest) ≡ false → wellFormed config (config .own) (take recordSize rest) ≡ false
-        → scanned config rest (length rest / recordSize) ≡ refused 21
-    scan-malformed b f = look ∙ rw (b, f)
-
-    pub scan-next : blank (take recordSize rest) ≡ false → wellFormed config (config .own) (take recordSize rest) ≡ true
-        → scanned config rest (length rest / recordSize) ≡ scanned config (drop recordSize rest) (length (drop recordSize rest) / recordSize)
-    scan-next b f = look ∙ rw (b, f)
-
--- what the search's number says
-pub found-number : (k : ℕ) → k < slots → foundOf k ≡ done k
-unfolding foundOf
-found-number k h = rw (lt-ltb k slots h)
-
-pub found-at : (k left : ℕ) → k ≡ slots - left → 1 ≤ left → foundOf k ≡ done (slots - left)
-found-at k left e some = ap foundOf e ∙ found-number (slots - left) (omega arith)
-
-pub found-none : (k : ℕ) → k ≡ slots → foundOf k ≡ refused 25
-unfolding foundOf
-found-none k e = rw e
-
-pub found-malformed : (k : ℕ) → slots < k → foundOf k ≡ refused 21
-unfolding foundOf
-found-malformed k h = rw (le-ltb k slots (omega arith), ne-eqb k slots (λ e. omega arith))
-
--- what comes after the first part of a part
-part-after : (ys : List ℕ) (n m : ℕ) → n ≤ length ys → drop n (take (n + m) ys) ≡ take m (drop n ys)
-part-after ys n m h =
-    ap (drop n) (take-add n m ys)
-    ∙ ap (λ (k : ℕ). drop k (take n ys ++ take m (drop n ys))) (sym (length-take-le n ys h))
-    ∙ drop-append-seam (take n ys) (take m (drop n ys))
-
--- over our last records the search is that over the buffer
-pub scanned-search : (config : Config) (records : List ℕ) → good config ≡ true → length records ≡ recordsSize config → (seq left : ℕ) → seq + left ≡ slots
-    → (start : ℕ) → start ≡ place config (ownSlot config 0) + recordSize * seq
-    → scanned config (part start (recordSize * left) records) left ≡ search config records seq left
-unfolding scanned search
-scanned-search config records g l seq zero e start at = refl
-scanned-search config records g l seq (suc left) e start at =
-    let range = own-range config seq g (omega arith) in
-    let here-is : start ≡ place config (ownSlot config seq) = at ∙ sym (own-place config seq g (omega arith)) in
-    let within = place-fits config g records l (ownSlot config seq) range in
-    let size : recordSize * suc left ≡ recordSize + recordSize * left = omega arith in
-    let room : recordSize ≤ length (drop start records) = simp length-drop (omega arith) in
-    let here : take recordSize (part start (recordSize * suc left) records) ≡ recordAt config (ownSlot config seq) records
-    = take-take recordSize (recordSize * suc left) (drop start records) (omega arith) ∙ record-at config (ownSlot config seq) records start here-is in
-    let rest-of : drop recordSize (part start (recordSize * suc left) records) ≡ part (start + recordSize) (recordSize * left) records
-    = ap (λ (k : ℕ). drop recordSize (take k (drop start records))) size
-    ∙ part-after (drop start records) recordSize (recordSize * left) room
-    ∙ ap (take (recordSize * left)) (drop-drop recordSize start records) in
-    let number : slots - suc left ≡ seq = omega arith in
-    rw (here, rest-of, number, scanned-search config records g l (suc seq) left (omega arith) (start + recordSize) (omega arith))
-
--- over all sixteen, given as a part of it
-pub scanned-own : (config : Config) (records : List ℕ) → good config ≡ true → length records ≡ recordsSize config → (start : ℕ) → start ≡ place config (ownSlot config 0)
-    → scanned config (take (start + recordSize * slots - start) (drop start records)) (length (take (start + recordSize * slots - start) (drop start records)) / recordSize)
-    ≡ search config records 0 slots
-scanned-own config records g l start e =
-    let sixteen : start + recordSize * slots - start ≡ recordSize * slots = omega arith in
-    let ours : take (start + recordSize * slots - start) (drop start records) ≡ part (place config (ownSlot config 0)) (recordSize * slots) records = rw (sixteen, e) in
-    let long = length-part records (place config (ownSlot config 0)) (recordSize * slots) (own-room config records g l) in
-    rw (ours, long) (scanned-search config records g l 0 slots refl (place config (ownSlot config 0)) (omega arith))
 
 -- the search depends on our records up to one at which it ends,
 pub search-agrees : (config : Config) (records others : List ℕ) (seq left last : ℕ) → seq ≤ last → last < seq + left

@@ -2,9 +2,9 @@
 -- Assumes nothing.
 use mathlib.Core.Path.{_≡_, _∙_}
 use mathlib.Core.Bool.{true, cond}
-use lib.Dec.{eqb, lit<}
+use lib.Dec.{eqb}
 use mathlib.Core.List.{List, _++_}
-use Prim.Native.Nat.{ℕ, _+_, _-_, _*_, _≤_, _<_}
+use Prim.Native.Nat.{ℕ, _+_, _-_, _≤_, _<_}
 use native.Mathlib.Omega.{arith}
 use lib.ListN.{length, take, drop}
 use lib.Seq.{drop-drop}
@@ -12,11 +12,11 @@ use borrow.Author.Tests.{eq-eqb}
 use Rattle.octets.specs.Octets.{part}
 use Rattle.octets.proofs.Numbers.{length-part}
 use Rattle.config.specs.declared.Config.{Config}
-use Rattle.config.specs.Config.{good, inRange, place, recordSize, recordsSize, slots, slotOfDay}
-use Rattle.config.proofs.Laws.{good-says, place-is, in-range}
+use Rattle.config.specs.Config.{good, inRange, place, recordSize, slots, slotOfDay}
+use Rattle.config.proofs.Laws.{good-says, in-range}
 use Rattle.record.specs.Record.{loaded}
 use Rattle.config.specs.declared.Slot.{Slot}
-use Rattle.calls.specs.Records.{stored, ownSlot, recordAt}
+use Rattle.calls.specs.Records.{ownSlot, recordAt}
 
 -- a part of 32 bytes is loaded as it is
 pub loaded-part : (xs : List ℕ) (i : ℕ) → i + recordSize ≤ length xs → loaded (take (i + recordSize - i) (drop i xs)) ≡ part i recordSize xs
@@ -39,19 +39,6 @@ stored-part xs ys bytes i h e =
 pub own-range : (config : Config) (seq : ℕ) → good config ≡ true → seq < slots → inRange config (ownSlot config seq) ≡ true
 unfolding slotOfDay
 own-range config seq g k = in-range config (ownSlot config seq) (good-says config g .known) k
-
-pub own-room : (config : Config) (records : List ℕ) → good config ≡ true → length records ≡ recordsSize config
-    → place config (ownSlot config 0) + recordSize * slots ≤ length records
-unfolding recordsSize slotOfDay
-own-room config records g l =
-    let known = good-says config g .known in
-    rw (l, place-is config (ownSlot config 0) g (own-range config 0 g (lit< tt))) (omega arith)
-
--- where each of them starts
-pub own-place : (config : Config) (seq : ℕ) → good config ≡ true → seq < slots → place config (ownSlot config seq) ≡ place config (ownSlot config 0) + recordSize * seq
-unfolding slotOfDay
-own-place config seq g k =
-    rw (place-is config (ownSlot config seq) g (own-range config seq g k), place-is config (ownSlot config 0) g (own-range config 0 g (lit< tt))) (omega arith)
 
 -- the record of a slot is the one at its place
 pub record-at : (config : Config) (slot : Slot) (records : List ℕ) (start : ℕ) → start ≡ place config slot → part start recordSize records ≡ recordAt config slot records

@@ -1,24 +1,21 @@
 -- What the private functions of this crate promise each other: what a bundle comes to, and what becomes of that; given by its answer and the bytes that the
--- record then has. And the search over the rest of our records. No public contract rests on these; a reader may pass them over.
+-- record then has. No public contract rests on these; a reader may pass them over.
 -- Assumes nothing.
 use mathlib.Core.Path.{_≡_}
 use mathlib.Core.Bool.{cond}
 use mathlib.Core.List.{List}
-use Prim.Native.Nat.{ℕ, zero, suc, _+_, _-_, _/_, _≤_}
-use lib.Dec.{eqb, ltb}
-use lib.ListN.{length, take, drop}
-use Rattle.octets.specs.Octets.{blank}
+use Prim.Native.Nat.{ℕ, _+_, _≤_}
+use lib.ListN.{length}
 use Rattle.signers.specs.Signers as signers
-use Rattle.signers.specs.Signers.{below, insert}
 use Rattle.refusal.specs.Refusal.{numberOf}
 use Rattle.refusal.specs.Outcome.{Outcome, refused, done, after, _and-then_}
 use Rattle.config.specs.declared.Config.{Config}
 use Rattle.config.specs.declared.Slot.{Slot}
-use Rattle.config.specs.Config.{quorum, slots, recordSize, place}
+use Rattle.config.specs.Config.{recordSize, place}
 use Rattle.bundle.specs.Bundle.{bundleOf, headerOf, slotIn}
 use Rattle.bundle.specs.Inner.{encodedLike}
 use Rattle.protocol.specs.Update.{Answer, sends}
-use Rattle.record.specs.Record.{signersField, payloadField, wellFormed, receivedOf}
+use Rattle.record.specs.Record.{signersField, payloadField, receivedOf}
 use Rattle.calls.specs.declared.Decision.{Decision}
 use Rattle.calls.specs.declared.Decision.the-variants.{Made, Refused}
 use Rattle.calls.specs.Records.{replaced}
@@ -46,25 +43,6 @@ settledRecords start received records = after received (λ result. replaced star
 
 unfoldable pub settledOut : (bundle : List ℕ) → Outcome (Answer × List ℕ) → (out : List ℕ) → List ℕ
 settledOut bundle received out = after received (λ result. cond (sends (result .0)) (encodedLike bundle (signersField (result .1)) (payloadField (result .1)) out) out) out
-
--- sets and quorum are those of the configuration
-abbrev pub SetsOf : Config → ℕ → ℕ → ℕ → Type 0
-SetsOf config all q ours = (all ≡ below (config .n)) × ((q ≡ quorum config) × (ours ≡ insert 0 (config .own)))
-
--- the search over the last `left` of our records: it looks at one and then at those after it
-unfoldable pub scanned : Config → List ℕ → ℕ → Outcome ℕ
-scanned config rest zero = refused 25
-scanned config rest (suc left) =
-    cond (blank (take recordSize rest)) (done (slots - suc left))
-    (cond (wellFormed config (config .own) (take recordSize rest)) (scanned config (drop recordSize rest) left) (refused 21))
-
--- what is found, as a number: below 16 it is that of a record, 16 is for none, 17 for a malformed one
-unfoldable pub foundOf : ℕ → Outcome ℕ
-foundOf number = cond (ltb number slots) (done number) (cond (eqb number slots) (refused 25) (refused 21))
-
--- for a configuration with these sets and this quorum, it is what the search over all that is left finds
-abbrev pub Found : ℕ → ℕ → ℕ → List ℕ → ℕ → Type 0
-Found all q ours rest number = (config : Config) → SetsOf config all q ours → foundOf number ≡ scanned config rest (length rest / recordSize)
 
 -- the number of a refusal; 1 where there is none
 abbrev pub numberIn : {A : Type 0} → Outcome A → ℕ

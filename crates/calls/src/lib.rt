@@ -11,20 +11,21 @@ use record::Record;
 use refusal::Refusal;
 use refusal::Verdict;
 ghost use mathlib.Core.Path.{_≡_};
-ghost use Prim.Native.Nat.{_+_, _*_, _%_, _≤_};
+ghost use mathlib.Core.Bool.{true};
+ghost use Prim.Native.Nat.{_+_, _≤_};
 ghost use lib.ListN.{length};
 ghost use Rattle.octets.specs.Octets.{part, advance};
 ghost use Rattle.refusal.specs.Refusal.{verdictOf, numberOf};
 ghost use Rattle.refusal.specs.Outcome.{plain, _and-then_, done};
-ghost use Rattle.config.specs.Config.{slots, recordSize, slotOfDay};
+ghost use Rattle.config.specs.Config.{good, slots, recordSize, recordsSize, slotOfDay};
 ghost use Rattle.bundle.specs.Bundle.{readingOf, slotOf, bundleSize};
 ghost use Rattle.record.specs.Record.{bytes, receivedOf, encodedUpdate};
 ghost use Rattle.calls.specs.Records.{replaced};
 ghost use Rattle.calls.specs.Open.{opened, openRecords};
-ghost use Rattle.calls.specs.Broadcast.{broadcast as broadcastOf, broadcastRecords, broadcastOut, announcementOf, announcementCount};
+ghost use Rattle.calls.specs.Broadcast.{search as searchOf, broadcast as broadcastOf, broadcastRecords, broadcastOut, announcementOf, announcementCount};
 ghost use Rattle.calls.specs.Receive.{receive as receiveOf, receiveRecords, receiveOut, reported, receiptOf, receiptCount};
 ghost use Rattle.calls.specs.Showing.{delivered as deliveredOf, deliveredPart, deliveredPlace};
-ghost use Rattle.calls.specs.Inner.{Found, decisionOf, Placed, settledReceipt, settledRecords, settledOut, numberIn, sent};
+ghost use Rattle.calls.specs.Inner.{decisionOf, Placed, settledReceipt, settledRecords, settledOut, numberIn, sent};
 
 // The answer of broadcasting: the sequence number used (R7.3).
 pub enum Announcement {
@@ -101,22 +102,13 @@ pub fn broadcast(config: Config, payload: &[u8], records: &mut [u8], out: &mut [
     if records.len() != config.records_size() {
         return Announcement::Refused(Refusal::RecordsLength);
     }
+    let announcement = search(config, records);
+    let Announcement::Announced(seq) = announcement else {
+        return announcement;
+    };
     let ours = signers::insert(0, config.own);
-    let first = config.slot_of_day(config.own, 0).place();
-    let seq = search(
-        signers::below(config.n),
-        config.quorum(),
-        ours,
-        &records[first..first + config::RECORD_SIZE * (config::SLOTS as usize)],
-    );
-    if seq == NONE_FREE {
-        return Announcement::Refused(Refusal::NoFreeSlot);
-    }
-    if NONE_FREE < seq {
-        return Announcement::Refused(Refusal::MalformedRecord);
-    }
     let record = Record::held(ours, payload::load(payload));
-    let start = first + config::RECORD_SIZE * (seq as usize);
+    let start = config.slot_of_day(config.own, seq).place();
     put(start, record, records);
     let header = Header {
         day: config.day,
@@ -125,7 +117,7 @@ pub fn broadcast(config: Config, payload: &[u8], records: &mut [u8], out: &mut [
         signers: ours,
     };
     send(header, record, out);
-    Announcement::Announced(seq)
+    announcement
 }
 
 // RULES section 8: receives a bundle that came in. What is answered signed or delivered is to be sent: `out` then has
@@ -198,31 +190,25 @@ pub fn delivered(config: Config, sender: u8, seq: u8, records: &[u8]) -> &[u8]
     }
 }
 
-// What `search` answers beside a number: all our records are well-formed and none is empty, or a malformed
-// one comes before any that is empty.
-const NONE_FREE: u8 = config::SLOTS;
-
-const MALFORMED: u8 = config::SLOTS + 1;
-
-// R7.2: the number of the first record that is empty in `rest`, the last of our sixteen, if all before it
-// are well-formed. It looks at one and calls itself for the rest (R17.9). The answer is a number, and the rest
-// a part of its own: an enum, or the slice as it came, would be copied in memory at each of the sixteen.
-fn search(all: u64, quorum: u32, ours: u64, rest: &[u8]) -> u8
-    requires { ⌜ length (now rest) % recordSize ≡ 0 ⌝ }
-    requires { ⌜ length (now rest) ≤ recordSize * slots ⌝ }
-    ensures { λ r. ⌜ Found all quorum ours (now (rest .entry)) r ⌝ }
+// R7.2: our lowest free number, or why there is none. It is a loop, since the radio task may call nothing that calls
+// itself (R7.5).
+fn search(config: Config, records: &[u8]) -> Announcement
+    requires { ⌜ good config ≡ true ⌝ }
+    requires { ⌜ length (now records) ≡ recordsSize config ⌝ }
+    ensures { λ r. ⌜ announcementOf r ≡ searchOf config (now (records .entry)) 0 slots ⌝ }
 {
-    if rest.len() == 0 {
-        return NONE_FREE;
+    let mut seq: u8 = 0;
+    while seq < config::SLOTS {
+        let record = get(config.slot_of_day(config.own, seq).place(), records);
+        if record.is_blank() {
+            return Announcement::Announced(seq);
+        }
+        if !record.well_formed(config, config.own) {
+            return Announcement::Refused(Refusal::MalformedRecord);
+        }
+        seq += 1;
     }
-    let record = get(0, rest);
-    if record.is_blank() {
-        return config::SLOTS - ((rest.len() / config::RECORD_SIZE % 256) as u8);
-    }
-    if !record.well_formed_by(all, quorum, ours, ours) {
-        return MALFORMED;
-    }
-    search(all, quorum, ours, &rest[config::RECORD_SIZE..])
+    Announcement::Refused(Refusal::NoFreeSlot)
 }
 
 // The reason for which a bundle was not accepted.

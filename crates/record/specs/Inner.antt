@@ -1,5 +1,5 @@
--- What functions of this crate promise each other and callers that look at many records. A reader may pass it over: `well-formed-by` in
--- proofs/WellFormed.antt shows that the test here is `wellFormed` of specs/Record.antt.
+-- What functions of this crate promise each other. No public contract rests on it; a reader may pass it over: `well-formed-by` in proofs/WellFormed.antt shows
+-- that the test here is `wellFormed` of specs/Record.antt.
 -- Assumes nothing.
 use mathlib.Core.Path.{_≡_}
 use mathlib.Core.Logic.{_⊎_}

@@ -113,10 +113,9 @@ impl Record {
         )
     }
 
-    // The same for a caller that looks at many records and has the sets already: all nodes, our own and
-    // the sender. The sender is asked for in each branch: before them, the compiler joins two tests into
-    // flags, which costs more than both.
-    pub fn well_formed_by(self, all: u64, quorum: u32, own: u64, sender: u64) -> bool
+    // The same by sets: all nodes, our own and the sender. The sender is asked for in each branch: before them, the
+    // compiler joins two tests into flags, which costs more than both.
+    fn well_formed_by(self, all: u64, quorum: u32, own: u64, sender: u64) -> bool
         ensures { λ r. ⌜ r ≡ wellFormedBy all quorum own sender self ⌝ }
     {
         if self.head == 0 {

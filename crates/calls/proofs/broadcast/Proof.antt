@@ -3,17 +3,15 @@
 use mathlib.Core.Path.{_≡_, refl, sym, ap, ap₂, _∙_}
 use mathlib.Core.Bool.{true}
 use mathlib.Core.List.{List}
-use Prim.Native.Nat.{ℕ, _+_, _*_, _≤_, _<_}
-use native.Mathlib.Omega.{arith}
-use lib.Dec.{lit<}
+use Prim.Native.Nat.{ℕ, _+_, _≤_}
 use lib.ListN.{length}
 use borrow.Author.Needs.{needs}
 use borrow.Author.Tests.{not-true, not-false}
 use Rattle.refusal.specs.Outcome.{done}
 use Rattle.config.specs.declared.Config.{Config}
 use Rattle.config.specs.declared.Slot.{Slot}
-use Rattle.config.specs.Config.{good, quorum, slots, slotOfDay, inRange, slotPlace, place, recordSize, recordsSize}
-use Rattle.config.proofs.Laws.{good-says, place-slot, records-fit}
+use Rattle.config.specs.Config.{good, quorum, slotOfDay, inRange, slotPlace, place, recordSize, recordsSize}
+use Rattle.config.proofs.Laws.{good-says, place-slot}
 use Rattle.bundle.specs.Bundle.{bundleOf, headerOf}
 use Rattle.bundle.proofs.Fields.{payload-loaded}
 use Rattle.protocol.specs.Update.{Held, announcedBy}
@@ -21,12 +19,11 @@ use Rattle.protocol.proofs.WellFormed.{WellFormed, announced-well-formed}
 use Rattle.record.specs.Record.{bytes, encoding, signersField, payloadField}
 use Rattle.record.proofs.Encoding.{encoding-fields}
 use Rattle.calls.specs.Records.{ownSlot, replaced, stored}
-use Rattle.calls.specs.Broadcast.{broadcast, announcedHeader}
-use Rattle.calls.specs.Inner.{foundOf, sent}
-use Rattle.calls.proofs.RecordBounds.{own-range, own-room, own-place}
+use Rattle.calls.specs.Broadcast.{broadcast, announcedHeader, announcementOf}
+use Rattle.calls.specs.Inner.{sent}
 use Rattle.calls.proofs.Records.{place-fits}
 use Rattle.calls.proofs.Refusals.{broadcast-no-effect, broadcast-effect, broadcast-bad, broadcast-payload, broadcast-out, broadcast-size, broadcast-searched}
-use Rattle.calls.proofs.LowestFree.{found-number, found-none, found-malformed, scanned-own}
+use Rattle.calls.proofs.LowestFree.{broadcast-done}
 use Rattle.calls.proofs.broadcast.Statement.{statement}
 use Rattle.calls.proofs.broadcast.Tie as tie
 
@@ -38,14 +35,8 @@ entry c = c .before .before .before .before .before
 abbrev configured : tie.Else3 → tie.Else1
 configured c = c .before .before
 
-abbrev sized : tie.After-place → tie.Else4
-sized c = c .before .before .before
-
-abbrev placed : tie.After-quorum → tie.After-place
-placed c = c .before .before
-
-abbrev ready : tie.After-search → tie.After-quorum
-ready c = c .before .before .before
+abbrev sized : tie.After-search → tie.Else4
+sized c = c .before .before
 
 good-known : (c : tie.Else1) → good (entry c .args .config) ≡ true
 good-known c = sym (c .before .good2 .ensures) ∙ not-false _ (c .if1 .left)
@@ -75,91 +66,66 @@ module _ (c : tie.Else4) where
   long-known : length records ≡ recordsSize config
   long-known = c .if4 .left ∙ c .before .records-size .ensures
 
--- our sixteen records lie within the buffer
-first-known : (c : tie.After-place) → c .place .result ≡ place (config (sized c)) (ownSlot (config (sized c)) 0)
-first-known c =
-    c .place .ensures
-    ∙ ap slotPlace (c .before .slot-of-day .ensures)
-    ∙ sym (place-slot (config (sized c)) (ownSlot (config (sized c)) 0) (good-there (sized c)) (own-range (config (sized c)) 0 (good-there (sized c)) (lit< tt)))
-
-room : (c : tie.After-place) → c .place .result + recordSize * slots ≤ length (records (sized c))
-room c = omega (arith, first-known c, own-room (config (sized c)) (records (sized c)) (good-there (sized c)) (long-known (sized c)))
-
 -- the search decides
-module _ (c : tie.After-search) where
-  abbrev known : tie.Else4
-  known = sized (placed (ready c))
-
-  searched : broadcast (config known) (payload known) (records known) (out known) ≡ foundOf (c .search .result)
-  searched =
-      broadcast-searched _ _ _ _ (good-there known) (lengths known .before .if2 .left) (lengths known .if3 .left) (long-known known)
-      ∙ sym (c .search .ensures (config known) (ready c .before .below .ensures, (ready c .quorum .ensures, placed (ready c) .before .before .insert .ensures))
-      ∙ scanned-own _ _ (good-there known) (long-known known) _ (first-known (placed (ready c))))
+searched : (c : tie.After-search) → let at = sized c in announcementOf (c .search .result) ≡ broadcast (config at) (payload at) (records at) (out at)
+searched c =
+    let at = sized c in
+    c .search .ensures ∙ sym (broadcast-searched _ _ _ _ (good-there at) (lengths at .before .if2 .left) (lengths at .if3 .left) (long-known at))
 
 -- ---- and where it has found a number
 
-module _ (c : tie.Else6) where
-  abbrev found : tie.After-search
-  found = c .before .before
+module _ (c : tie.After-known-told) where
+  abbrev at : tie.Else4
+  at = sized (c .before .before .before)
 
   abbrev seq : ℕ
-  seq = found .search .result
-
-  abbrev at : tie.Else4
-  at = known found
+  seq = c .before .announcement .given .0 .0
 
   abbrev slot : Slot
   slot = ownSlot (config at) seq
 
-  seq-known : seq < slots
-  seq-known = omega (arith, c .before .if5 .left, c .if6 .left)
+  announced : broadcast (config at) (payload at) (records at) (out at) ≡ done seq
+  announced = sym (searched (c .before .before .before)) ∙ ap announcementOf (c .before .announcement .given .1)
 
   range-known : inRange (config at) slot ≡ true
-  range-known = own-range (config at) seq (good-there at) seq-known
+  range-known = broadcast-done _ _ _ _ _ announced .range
 
-  announced : broadcast (config at) (payload at) (records at) (out at) ≡ done seq
-  announced = searched found ∙ found-number _ seq-known
+  fits : place (config at) slot + recordSize ≤ length (records at)
+  fits = place-fits (config at) (good-there at) (records at) (long-known at) slot range-known
 
 -- ---- what is stored and sent
 
 module _ (c : tie.After-held) where
-  abbrev numbered : tie.Else6
-  numbered = c .before .before
-
-  abbrev placing : tie.After-place
-  placing = placed (ready (found numbered))
-
-  abbrev signer : tie.After-insert
-  signer = placing .before .before
-
-  place-known : placing .place .result + recordSize * seq numbered ≡ place (config (at numbered)) (slot numbered)
-  place-known = omega (arith, first-known placing, own-place (config (at numbered)) (seq numbered) (good-there (at numbered)) (seq-known numbered))
-
-  fits : place (config (at numbered)) (slot numbered) + recordSize ≤ length (records (at numbered))
-  fits = place-fits (config (at numbered)) (good-there (at numbered)) (records (at numbered)) (long-known (at numbered)) (slot numbered) (range-known numbered)
+  abbrev found : tie.After-known-told
+  found = c .before .before .before
 
   -- the record that is stored is the announcement's
-  kept-known : bytes (c .held .result) ≡ encoding (announcedBy (config (at numbered) .own) (payload (at numbered)))
+  kept-known : bytes (c .held .result) ≡ encoding (announcedBy (config (at found) .own) (payload (at found)))
   unfolding announcedBy
   kept-known =
       c .held .ensures
-      ∙ ap₂ (λ (s : ℕ) (p : List ℕ). encoding (Held s p)) (signer .insert .ensures)
-      (c .before .load .ensures ∙ payload-loaded (payload (at numbered)) (lengths (at numbered) .before .if2 .left))
+      ∙ ap₂ (λ (s : ℕ) (p : List ℕ). encoding (Held s p)) (c .before .before .insert .ensures)
+      (c .before .load .ensures ∙ payload-loaded (payload (at found)) (lengths (at found) .before .if2 .left))
 
-  well-formed : WellFormed (config (at numbered) .n) (config (at numbered) .own) (quorum (config (at numbered))) (config (at numbered) .own) (announcedBy (config (at numbered) .own) (payload (at numbered)))
+  well-formed : WellFormed (config (at found) .n) (config (at found) .own) (quorum (config (at found))) (config (at found) .own) (announcedBy (config (at found) .own) (payload (at found)))
   well-formed =
-      let g = good-says (config (at numbered)) (good-there (at numbered)) in
-      announced-well-formed (config (at numbered) .n) (quorum (config (at numbered))) (config (at numbered) .own) (payload (at numbered)) (g .known) (g .most)
-      (lengths (at numbered) .before .if2 .left)
+      let g = good-says (config (at found)) (good-there (at found)) in
+      announced-well-formed (config (at found) .n) (quorum (config (at found))) (config (at found) .own) (payload (at found)) (g .known) (g .most)
+      (lengths (at found) .before .if2 .left)
 
   -- and so is its bundle
-  sent-known : sent (slot numbered) (bytes (c .held .result)) ≡ bundleOf (announcedHeader (config (at numbered)) (seq numbered)) (payload (at numbered))
+  sent-known : sent (slot found) (bytes (c .held .result)) ≡ bundleOf (announcedHeader (config (at found)) (seq found)) (payload (at found))
   unfolding sent announcedBy
   sent-known =
       let (signed, same) =
-      encoding-fields (config (at numbered) .n) (config (at numbered) .own) (quorum (config (at numbered))) (config (at numbered) .own)
-      (good-says (config (at numbered)) (good-there (at numbered)) .most) (announcedBy (config (at numbered) .own) (payload (at numbered))) refl well-formed in
-      ap₂ bundleOf (ap (headerOf (slot numbered)) (ap signersField kept-known ∙ signed)) (ap payloadField kept-known ∙ same)
+      encoding-fields (config (at found) .n) (config (at found) .own) (quorum (config (at found))) (config (at found) .own)
+      (good-says (config (at found)) (good-there (at found)) .most) (announcedBy (config (at found) .own) (payload (at found))) refl well-formed in
+      ap₂ bundleOf (ap (headerOf (slot found)) (ap signersField kept-known ∙ signed)) (ap payloadField kept-known ∙ same)
+
+place-known : (c : tie.After-place) → let told = found (c .before .before) in c .place .result ≡ place (config (at told)) (slot told)
+place-known c =
+    let told = found (c .before .before) in
+    c .place .ensures ∙ ap slotPlace (c .before .slot-of-day .ensures) ∙ sym (place-slot (config (at told)) (slot told) (good-there (at told)) (range-known told))
 
 -- ---- the needs
 
@@ -183,55 +149,25 @@ returns-4 c =
     let ok = c .before .before in
     broadcast-no-effect _ _ _ _ _ (broadcast-size _ _ _ _ (good-known (configured ok)) (ok .before .if2 .left) (ok .if3 .left) (λ q. c .if4 .taken (q ∙ sym (c .before .records-size .ensures))))
 
-insert-requires : tie.Need-insert-requires
-insert-requires c κs = search needs
-
-slot-of-day-requires : tie.Need-slot-of-day-requires
-slot-of-day-requires c κs = search needs
-
-place-requires : tie.Need-place-requires
-place-requires c κs = search needs
-
-below-requires : tie.Need-below-requires
-below-requires c κs = search needs
-
-quorum-requires : tie.Need-quorum-requires
-quorum-requires c κs = search needs
-
-cast-search : tie.Need-cast-search
-cast-search c = search needs
-
-mul-search : tie.Need-mul-search
-mul-search c = search needs
-
-add-search : tie.Need-add-search
-add-search c =
-    let fits = records-fit _ (good-there (sized (placed c))) in
-    omega (arith, room (placed c), long-known (sized (placed c)))
-
-sub-search : tie.Need-sub-search
-sub-search c = search needs
-
-part-search-start : tie.Need-part-search-start
-part-search-start c = search needs
-
-part-search-end : tie.Need-part-search-end
-part-search-end c = omega (arith, room (placed (c .before)))
-
 search-requires : tie.Need-search-requires
-search-requires c κs = search needs
+search-requires c κs = (good-there (c .before), long-known (c .before))
+
+enum-known-announcement : tie.Need-enum-known-announcement
+enum-known-announcement c = search needs
+
+enum-told : tie.Need-enum-told
+enum-told c = search needs
 
 same-length : tie.Need-same-length
 same-length c = search needs
 
 returns-5 : tie.Need-returns-5
-returns-5 c = broadcast-no-effect _ _ _ _ _ (searched (c .before) ∙ found-none _ (c .if5 .taken))
+returns-5 c =
+    let told = ap announcementOf (c .enum-told .given .1) in
+    let decided = searched (c .before .before) in (decided, broadcast-no-effect _ _ _ _ _ (sym decided ∙ told) .1)
 
-same-length-2 : tie.Need-same-length-2
-same-length-2 c = search needs
-
-returns-6 : tie.Need-returns-6
-returns-6 c = broadcast-no-effect _ _ _ _ _ (searched (c .before .before) ∙ found-malformed _ (c .if6 .taken))
+insert-requires : tie.Need-insert-requires
+insert-requires c κs = search needs
 
 load-requires : tie.Need-load-requires
 load-requires c κs = search needs
@@ -239,45 +175,39 @@ load-requires c κs = search needs
 held-requires : tie.Need-held-requires
 held-requires c κs = search needs
 
-cast-start : tie.Need-cast-start
-cast-start c = search needs
+slot-of-day-requires : tie.Need-slot-of-day-requires
+slot-of-day-requires c κs = search needs
 
-mul-start : tie.Need-mul-start
-mul-start c = search needs
-
-add-start : tie.Need-add-start
-add-start c =
-    let within = records-fit _ (good-there (at (numbered c))) in
-    omega (arith, place-known c, fits c, long-known (at (numbered c)))
+place-requires : tie.Need-place-requires
+place-requires c κs = search needs
 
 put-requires : tie.Need-put-requires
-put-requires c κs = omega (arith, place-known (c .before), fits (c .before))
+put-requires c κs = let told = found (c .before .before .before) in rw (place-known (c .before)) (fits told)
 
 send-requires : tie.Need-send-requires
-send-requires c κs =
-    let putting = c .before .before .before .before in
-    lengths (at (numbered (putting .before))) .if3 .left
+send-requires c κs = search needs
+
+same-length-2 : tie.Need-same-length-2
+same-length-2 c = search needs
 
 same-length-3 : tie.Need-same-length-3
 same-length-3 c = search needs
 
-same-length-4 : tie.Need-same-length-4
-same-length-4 c = search needs
-
-returns-7 : tie.Need-returns-7
+returns-6 : tie.Need-returns-6
 unfolding stored slotOfDay
-returns-7 c =
+returns-6 c =
     let sending = c .before .before in
     let putting = sending .before .before .before .before in
-    let loading = putting .before .before in
-    let work = announced (numbered loading) in
+    let placing = putting .before .before in
+    let keeping = placing .before .before in
+    let work = announced (found keeping) in
     let (records-left, out-left) = broadcast-effect _ _ _ _ _ work in (
       sym work,
       (
         putting .put .ensures
-            ∙ ap₂ (λ (k : ℕ) (xs : List ℕ). replaced k xs (records (at (numbered loading)))) (place-known loading) (kept-known loading)
+            ∙ ap₂ (λ (k : ℕ) (xs : List ℕ). replaced k xs (records (at (found keeping)))) (place-known placing) (kept-known keeping)
             ∙ records-left,
-        sending .send .ensures ∙ sent-known loading ∙ out-left,
+        sending .send .ensures ∙ sent-known keeping ∙ out-left,
       ),
     )
 
@@ -291,29 +221,18 @@ broadcast-spec =
     returns-3
     records-size-requires
     returns-4
-    insert-requires
-    slot-of-day-requires
-    place-requires
-    below-requires
-    quorum-requires
-    cast-search
-    mul-search
-    add-search
-    sub-search
-    part-search-start
-    part-search-end
     search-requires
+    enum-known-announcement
+    enum-told
     same-length
     returns-5
-    same-length-2
-    returns-6
+    insert-requires
     load-requires
     held-requires
-    cast-start
-    mul-start
-    add-start
+    slot-of-day-requires
+    place-requires
     put-requires
     send-requires
+    same-length-2
     same-length-3
-    same-length-4
-    returns-7)
+    returns-6)
