@@ -236,19 +236,17 @@ impl Record {
     }
 }
 
-/// The first empty of our own records and its number; `seq` is the number of the first given.
+/// The first empty of our own records, with its number. A malformed one before it refuses; those behind it do not matter.
 fn first_empty<'a>(
     config: &Config,
     own_records: &'a mut [[u8; 32]],
-    seq: u8,
 ) -> Result<(u8, &'a mut [u8; 32]), Refusal> {
-    let (first, rest) = own_records
-        .split_first_mut()
-        .ok_or(Refusal::NoEmptyRecord)?;
-    match Record::read(config, config.own, first)?.state {
-        State::Empty => Ok((seq, first)),
-        State::Held | State::Delivered => first_empty(config, rest, seq + 1),
+    for (seq, bytes) in (0..16).zip(own_records) {
+        if Record::read(config, config.own, bytes)?.state == State::Empty {
+            return Ok((seq, bytes));
+        }
     }
+    Err(Refusal::NoEmptyRecord)
 }
 
 /// Makes every record empty. The rules: opening a day.
@@ -274,7 +272,7 @@ pub fn broadcast(
     let complete = records.len() == config.records_length();
     require(complete, Refusal::RecordsLength)?;
     let (own_records, _) = records[config.place(config.own, 0)..][..512].as_chunks_mut();
-    let (seq, bytes) = first_empty(config, own_records, 0)?;
+    let (seq, bytes) = first_empty(config, own_records)?;
     let (sender, state, signers) = (config.own, State::Held, bit(config.own));
     Record {
         state,

@@ -209,7 +209,7 @@ fn bundles(kind: Kind, name: String, n: u8, found: Found, brought: u32, code: u3
     }
 }
 
-/// Payloads broadcast, one by each node, with so many numbers used already.
+/// Payloads broadcast, one by each node, with so many numbers used already; refused where that is all of them.
 fn broadcasts(name: &str, n: u8, used: u8) -> Row {
     let mut random = Random::new(2);
     let (mut calls, mut buffers) = (Vec::new(), Vec::new());
@@ -233,7 +233,11 @@ fn broadcasts(name: &str, n: u8, used: u8) -> Row {
         }
         buffers.push(records);
     }
-    let code = 200 + u32::from(used);
+    let code = if used < SLOTS {
+        200 + u32::from(used)
+    } else {
+        25
+    };
     Row {
         name: name.to_string(),
         kind: Kind::Broadcast,
@@ -316,6 +320,7 @@ fn rows() -> Vec<Row> {
         let announcing = [
             broadcasts("announcing: fresh day", n, 0),
             broadcasts("announcing: number 15", n, 15),
+            broadcasts("announcing: 25", n, SLOTS),
         ];
         std::iter::once(openings("opening", n))
             .chain(answers(Kind::Receive, "taking", n))
