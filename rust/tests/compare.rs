@@ -1,6 +1,7 @@
 //! The exported functions beside the reference: code, records and outgoing bytes of each call, on calls made from a seed. A preview is
 //! compared besides with taking on a copy of the records, by each of the two, and the records have to stay. One setpoint from many is about
-//! whole buffers of records, and is compared on such, apart from the other calls.
+//! whole buffers of records, and is compared on such, apart from the other calls. Announcing is compared once more on buffers in which its
+//! search for our next number ends at each possible place.
 //!
 //! `MBRB_CALLS` sets how many calls, `MBRB_SEED` another seed, both decimal. With fewer than three hundred thousand calls some code,
 //! record, quorum or n may be too rare, and the test fails for that.
@@ -17,6 +18,8 @@ mod node;
 mod quorums;
 #[path = "compare/records.rs"]
 mod records;
+#[path = "compare/searches/mod.rs"]
+mod searches;
 #[path = "compare/setpoints/mod.rs"]
 mod setpoints;
 #[path = "compare/system.rs"]

@@ -85,7 +85,11 @@ impl Case {
         self.run_call(call, records)
     }
 
-    fn run_call(&self, call: Call, records: &mut [u8]) -> (u32, [u8; 64]) {
+    pub fn run_call(
+        &self,
+        call: impl Fn(&Config, &[u8], &mut [u8], &mut [u8]) -> u32,
+        records: &mut [u8],
+    ) -> (u32, [u8; 64]) {
         let mut out = self.out;
         let lent = &mut records[..self.records_length];
         let lent_out = &mut out[..self.out_length];

@@ -106,7 +106,7 @@ pub fn payload_of(record: &[u8; 32]) -> [u8; 16] {
     record[16..].try_into().expect("16 bytes")
 }
 
-fn encode(state: u8, signers: u64, payload: &[u8; 16]) -> [u8; 32] {
+pub fn encode(state: u8, signers: u64, payload: &[u8; 16]) -> [u8; 32] {
     let mut record = [0; 32];
     record[0] = state;
     record[8..16].copy_from_slice(&signers.to_be_bytes());
@@ -117,6 +117,19 @@ fn encode(state: u8, signers: u64, payload: &[u8; 16]) -> [u8; 32] {
 pub const EMPTY: u8 = 0;
 pub const HELD: u8 = 1;
 pub const DELIVERED: u8 = 2;
+
+/// Whether a record is well-formed, by what the rules ask of it and not by how it was made.
+pub fn well_formed(config: &Config, sender: u8, record: &[u8; 32]) -> bool {
+    let signers = signers_of(record);
+    let has = |node| signers & bit(node) != 0;
+    let state = match record[0] {
+        EMPTY => *record == [0; 32],
+        HELD => has(sender) && has(config.own),
+        DELIVERED => has(sender) && signers.count_ones() >= config.q,
+        _ => false,
+    };
+    state && record[1..8] == [0; 7] && signers & !config.mask() == 0
+}
 
 /// The slot whose record is made, and what it would hold.
 #[derive(Clone, Copy)]

@@ -172,11 +172,12 @@ const OWN_EDGES: [(Meets, Edge, u32); 2] = [
 ];
 
 /// In our own slots the sender's bit is ours, so no record lacks just one of the two.
-fn in_our_slots(clause: Clause) -> bool {
+pub fn in_our_slots(clause: Clause) -> bool {
     !matches!(clause, Clause::HeldWithoutSender | Clause::HeldWithoutOwn)
 }
 
-fn assert_seen<Key: Copy + Ord + fmt::Debug>(
+/// Fails if something possible was seen less than `least` times, or if something else was seen.
+pub fn assert_seen<Key: Copy + Ord + fmt::Debug>(
     what: &str,
     seen: &BTreeMap<Key, u64>,
     possible: impl IntoIterator<Item = Key>,

@@ -1,7 +1,7 @@
 //! Setpoints by rules that are right but for one: the comparison has to find each.
 
 use super::buffers::MARKS;
-use crate::records::{bit, signers_of};
+use crate::records::well_formed;
 use mbrb::reference::least_quorum;
 use mbrb::Config;
 
@@ -57,18 +57,6 @@ fn setpoints(payloads: &[Payload]) -> impl Iterator<Item = Numbered> + '_ {
 fn sorted(mut values: Vec<i16>, key: fn(i16) -> i32, place: fn(usize) -> usize) -> i16 {
     values.sort_by_key(|&value| key(value));
     values[place(values.len()) - 1]
-}
-
-fn well_formed(config: &Config, sender: u8, record: &[u8; 32]) -> bool {
-    let signers = signers_of(record);
-    let has = |node| signers & bit(node) != 0;
-    let state = match record[0] {
-        0 => *record == [0; 32],
-        1 => has(sender) && has(config.own),
-        2 => has(sender) && signers.count_ones() >= config.q,
-        _ => false,
-    };
-    state && record[1..8] == [0; 7] && signers & !config.mask() == 0
 }
 
 impl Rules {
