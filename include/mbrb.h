@@ -229,9 +229,10 @@
  *     arguments that the caller puts there. Each figure is the deepest chain of frames in the machine code, return
  *     addresses included: tests/call_graph adds them up, and tests/footprint sees the same on a stack that was painted
  *     before.
- *   - No recursion: none of these functions calls itself, and none that they reach does, directly or by another. No
- *     function is called by a pointer. tests/call_graph looks at the whole call graph, that of the program which is
- *     proved and that of the machine code.
+ *   - No recursion: none of these functions calls itself, and none that they reach in the library does, directly or by
+ *     another. All are called by name, none by a pointer. tests/call_graph looks at the whole call graph, that of the
+ *     program which is proved and that of the machine code. The memset below mbrb_open is the host's, and not looked
+ *     into.
  *   - Code: 1,664 bytes, 966 more where mbrb_preview is used, and 683 more where mbrb_setpoint is: each of the two
  *     is a member of its own in the library, and a host that does not call it does not link it. No vector or
  *     floating-point register is used, but in mbrb_setpoint. It clears 128 bytes of its stack by xmm0, so call it only

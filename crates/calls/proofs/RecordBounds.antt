@@ -35,7 +35,7 @@ stored-part xs ys bytes i h e =
     let new : ys ≡ bytes = e ∙ rw (k, whole) in
     rw (new, k, drop-drop recordSize i xs)
 
--- our own sixteen records lie within the buffer
+-- our own sixteen slots are in range
 pub own-range : (config : Config) (seq : ℕ) → good config ≡ true → seq < slots → inRange config (ownSlot config seq) ≡ true
 unfolding slotOfDay
 own-range config seq g k = in-range config (ownSlot config seq) (good-says config g .known) k

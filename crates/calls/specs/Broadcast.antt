@@ -23,7 +23,7 @@ use Rattle.calls.specs.Records.{ownSlot, recordAt, stored, wrongSize}
 use Rattle.calls.specs.declared.Announcement.{Announcement}
 use Rattle.calls.specs.declared.Announcement.the-variants.{Announced, Refused}
 
--- R7.2: the search looks at the record of number `seq`, the first of `left` that are left, and calls itself for those after it. An empty record is all zero;
+-- R7.2: the search looks at the record of number `seq`, the first of `left` that are left, and then at those after it. An empty record is all zero;
 -- 21 is for a malformed one that no empty one comes before, and 25 where all are well-formed and none is empty.
 unfoldable pub search : Config → (records : List ℕ) (seq left : ℕ) → Outcome ℕ
 search config records seq zero = refused 25

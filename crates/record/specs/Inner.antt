@@ -22,7 +22,7 @@ deliveredHead = 0x200_0000_0000_0000
 abbrev pub HasState : Record → Type 0
 HasState r = (r .head ≡ 0) ⊎ ((r .head ≡ heldHead) ⊎ (r .head ≡ deliveredHead))
 
--- whether a record is well-formed, as a program tests it, by sets and a quorum that it has: all nodes, our own, the sender
+-- whether a record is well-formed, as the code tests it, by a quorum and three sets: all nodes, us, the sender
 unfoldable pub wellFormedBy : (all q own sender : ℕ) (r : Record) → Bool
 wellFormedBy all q own sender r =
     cond (eqb (r .head) 0) (blank (bytes r))

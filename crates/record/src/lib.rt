@@ -113,32 +113,6 @@ impl Record {
         )
     }
 
-    // The same by sets: all nodes, our own and the sender. The sender is asked for in each branch: before them, the
-    // compiler joins two tests into flags, which costs more than both.
-    fn well_formed_by(self, all: u64, quorum: u32, own: u64, sender: u64) -> bool
-        ensures { λ r. ⌜ r ≡ wellFormedBy all quorum own sender self ⌝ }
-    {
-        if self.head == 0 {
-            return self.is_blank();
-        }
-        if all < self.signers {
-            return false;
-        }
-        if self.head == HELD {
-            if !signers::meets(self.signers, sender) {
-                return false;
-            }
-            return signers::meets(self.signers, own);
-        }
-        if !signers::meets(self.signers, sender) {
-            return false;
-        }
-        if self.head == DELIVERED {
-            return quorum <= signers::size(self.signers);
-        }
-        false
-    }
-
     // Whether the slot is delivered, of a record that is well-formed.
     pub fn is_delivered(self) -> bool
         ensures { λ r. ⌜ r ≡ isDelivered (decoded (bytesIn self)) ⌝ }
@@ -173,6 +147,32 @@ impl Record {
             signers,
             payload,
         }
+    }
+
+    // Whether a record is well-formed, by the sets of all nodes, of us and of the sender. The sender is asked for in each
+    // branch: before them, the compiler joins two tests into flags, which costs more than both.
+    fn well_formed_by(self, all: u64, quorum: u32, own: u64, sender: u64) -> bool
+        ensures { λ r. ⌜ r ≡ wellFormedBy all quorum own sender self ⌝ }
+    {
+        if self.head == 0 {
+            return self.is_blank();
+        }
+        if all < self.signers {
+            return false;
+        }
+        if self.head == HELD {
+            if !signers::meets(self.signers, sender) {
+                return false;
+            }
+            return signers::meets(self.signers, own);
+        }
+        if !signers::meets(self.signers, sender) {
+            return false;
+        }
+        if self.head == DELIVERED {
+            return quorum <= signers::size(self.signers);
+        }
+        false
     }
 
     // What a bundle does to a record that is well-formed. Its first word is tested by the same equalities

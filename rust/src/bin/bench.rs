@@ -209,8 +209,9 @@ fn bundles(kind: Kind, name: String, n: u8, found: Found, brought: u32, code: u3
     }
 }
 
-/// Payloads broadcast, one by each node, with so many numbers used already; refused where that is all of them.
-fn broadcasts(name: &str, n: u8, used: u8) -> Row {
+/// Payloads broadcast, one by each node, with so many numbers used already, whose records are all as `found`; refused where that is all of
+/// them.
+fn broadcasts(name: &str, n: u8, used: u8, found: Found) -> Row {
     let mut random = Random::new(2);
     let (mut calls, mut buffers) = (Vec::new(), Vec::new());
     while calls.len() < CALLS {
@@ -218,11 +219,7 @@ fn broadcasts(name: &str, n: u8, used: u8) -> Row {
         for own in 0..n {
             let config = config_of(n, own);
             for seq in 0..SLOTS {
-                let found = if seq < used {
-                    Found::Held(1)
-                } else {
-                    Found::Empty
-                };
+                let found = if seq < used { found } else { Found::Empty };
                 records.extend(record(&config, own, found, &payload(&mut random)));
             }
             calls.push(Ready {
@@ -317,10 +314,11 @@ fn answers(kind: Kind, call: &str, n: u8) -> impl Iterator<Item = Row> + '_ {
 
 fn rows() -> Vec<Row> {
     let rows_of = |n| {
+        let delivered = Found::Delivered(config_of(n, 1).quorum());
         let announcing = [
-            broadcasts("announcing: fresh day", n, 0),
-            broadcasts("announcing: number 15", n, 15),
-            broadcasts("announcing: 25", n, SLOTS),
+            broadcasts("announcing: fresh day", n, 0, Found::Empty),
+            broadcasts("announcing: number 15", n, 15, Found::Held(1)),
+            broadcasts("announcing: 25", n, SLOTS, delivered),
         ];
         std::iter::once(openings("opening", n))
             .chain(answers(Kind::Receive, "taking", n))

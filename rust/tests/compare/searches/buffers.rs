@@ -12,7 +12,7 @@ pub enum Content {
     Held,
     Delivered,
     Malformed(Clause),
-    /// so malformed too, mostly by several clauses
+    /// random ones, which make a record malformed by several clauses at once
     AnyBytes,
 }
 
