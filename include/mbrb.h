@@ -225,8 +225,8 @@
  *   - Memory: MBRB_RECORDS_SIZE(n) bytes of records, which the host gives. The library allocates nothing and has no
  *     data of its own.
  *   - Stack: 64 bytes for mbrb_broadcast, 72 for mbrb_receive, 64 for mbrb_preview, 24 for mbrb_open, 208 for
- *     mbrb_setpoint, whatever it is given; and below mbrb_open what the host's memset takes. Besides, up to 48 bytes of
- *     arguments that the caller puts there. Each figure is the deepest chain of frames in the machine code, return
+ *     mbrb_setpoint, whatever they are given; and below mbrb_open what the host's memset takes. Besides, up to 48 bytes
+ *     of arguments that the caller puts there. Each figure is the deepest chain of frames in the machine code, return
  *     addresses included: tests/call_graph adds them up, and tests/footprint sees the same on a stack that was painted
  *     before.
  *   - No recursion: none of these functions calls itself, and none that they reach in the library does, directly or by
