@@ -8,8 +8,10 @@
  * mbrb_receive, with every code and byte that they give; section 9 says what is argued of hosts that keep to this page.
  * Two more functions only read the records: mbrb_preview tells a display what taking a bundle would do, and does
  * nothing of it; mbrb_setpoint finds one setpoint among those that the units have announced, so that a unit with
- * swapped sensors does not drag the others along. Every host needs sections 1 to 8, in this order; 9 to 11 are to look
- * up, 12 is for a host with a display, and 13 for one that acts on one setpoint of the whole cascade.
+ * swapped sensors does not drag the others along. Where a unit says two things in one slot, those that hear both note
+ * the second one in their records, for people to see. Every host needs sections 1 to 8, in this order; 9 to 11 are to
+ * look up, 12 is for a host with a display and says what a note is worth, and 13 is for one that acts on one setpoint
+ * of the whole cascade.
  *
  *
  * 1. Link it
@@ -32,6 +34,7 @@
  *      this one among them: a unit delivers its own announcement by taking it back with enough signatures. After any
  *      other code there is nothing to send.
  *   5. After MBRB_DELIVERED act on the body in `out`, before or after sending it. It comes once for each slot.
+ *   6. After MBRB_NOTED tell the installer that the bundle's sender says two things (section 12), and go on as before.
  * A code from 1 to 99 is a refusal: no byte has changed, and the number says why. Section 8 says what to do. A preview
  * is none of these steps, and comes between them as often as a display wants it (section 12). To ask for the setpoint
  * of the whole cascade is a part of acting, for a host that heats by it (section 13).
@@ -76,21 +79,23 @@
  * unit that was off for longer then needs somebody who confirms the date. A day is any number that only grows and that
  * all units share; it may stand for an hour.
  *
- * What to save. A refusal, mbrb_preview and mbrb_setpoint change no record. MBRB_KEPT, MBRB_SIGNED and MBRB_DELIVERED
- * of mbrb_receive change the 32 bytes at MBRB_RECORD_AT(sender, number), by the sender and number of the bundle taken.
- * MBRB_ANNOUNCED(number) changes those at MBRB_RECORD_AT(own, number). No other byte of the records changes, which is
- * proved. mbrb_open changes all of them.
- *   - These 32 bytes are saved all or nothing: after a loss of power either the old or the new ones are there. A
+ * What to save. A refusal, mbrb_preview and mbrb_setpoint change no record. MBRB_KEPT, MBRB_NOTED, MBRB_SIGNED and
+ * MBRB_DELIVERED of mbrb_receive change the MBRB_RECORD_SIZE bytes at MBRB_RECORD_AT(sender, number), by the sender and
+ * number of the bundle taken. MBRB_ANNOUNCED(number) changes those at MBRB_RECORD_AT(own, number). No other byte of the
+ * records changes, which is proved. mbrb_open changes all of them.
+ *   - These 64 bytes are saved all or nothing: after a loss of power either the old or the new ones are there. A
  *     mixture can be a record that claims signatures which nobody gave.
  *   - After MBRB_SIGNED, MBRB_DELIVERED and MBRB_ANNOUNCED(number) the record is saved before `out` is sent, before the
  *     body is acted on, and before the next call. `out`, and that it is still to be sent and its body to be acted on,
  *     are saved in the same step, all or nothing, and no later call's take their place before that is done. If `out` is
  *     saved and its record is not, the unit sends a signature that it will not remember; if the record is saved and
- *     `out` is not, it may never be sent. A second copy, and then a mark that makes it the valid one, is such a step; so
- *     is an entry of a journal.
+ *     `out` is not, it may never be sent. A second copy, and then a mark that makes it the valid one, is such a step;
+ *     so is an entry of a journal.
  *   - MBRB_KEPT need not be saved before the next sending, nor at all. What is lost with it is signatures of others, as
  *     if that bundle had not come in: for delivery it has not reached this unit. The same holds for every call whose
  *     change is lost before it is saved.
+ *   - MBRB_NOTED need not be saved either. What is lost with it is the note alone: for delivery the bundle has reached
+ *     this unit.
  *   - Where saving fails, send nothing, and go on as after a restart.
  *
  *
@@ -100,10 +105,10 @@
  *      is still to be acted on, and the signatures of section 6. An older copy is not it. If that cannot be done, the
  *      unit has forgotten what it signed: go to "A lost block" below.
  *   2. Act on each body that is still to be acted on. The calls do not tell it again: they answer 22 from now on. Where
- *      power fails between acting and noting it, it is acted on twice; where that does harm, note it first. A host of
- *      section 13 asks for the setpoint too, whether or not a body is left.
- *   3. Compare the block's day with the clock's, as in section 4. If the clock's is later, open the new day and go on at
- *      6: what was still to be sent is of yesterday, and is refused by all who have opened the new day.
+ *      power fails between acting and writing that down, it is acted on twice; where that does harm, write it down
+ *      first. A host of section 13 asks for the setpoint too, whether or not a body is left.
+ *   3. Compare the block's day with the clock's, as in section 4. If the clock's is later, open the new day and go on
+ *      at 6: what was still to be sent is of yesterday, and is refused by all who have opened the new day.
  *   4. Else do not open the day again.
  *   5. Send each `out` that is still to be sent. Where it was sent already, the same bytes again do no harm.
  *   6. Go on with announcing and taking.
@@ -120,8 +125,8 @@
  *
  * 6. Signatures
  *
- * Bit u of a bundle's signers stands for a signature of unit u on day, sender, number and body: on bytes 0 to 7 and 16 to
- * 31 of the bundle, say, and on the same at all units. The library sees the bits alone.
+ * Bit u of a bundle's signers stands for a signature of unit u on day, sender, number and body: on bytes 0 to 7 and 16
+ * to 31 of the bundle, say, and on the same at all units. The library sees the bits alone.
  *   - Coming in: bundle and signatures are copied, so that the radio cannot change them. The key chip checks each
  *     signature of units 0 to n - 1, our own as well, before the call, and the host clears the bit of each that does
  *     not hold. Bits at n and above may stay: the call refuses them. All key chips judge alike; where one clears a bit
@@ -131,8 +136,10 @@
  *     that slot and body, and are stored.
  *   - Storing is the host's, in the key chip or beside it. After MBRB_SIGNED, MBRB_KEPT and MBRB_DELIVERED store the
  *     signatures whose bits were left in the bundle; one whose bit was cleared is thrown away, and takes the place of
- *     none. After a refusal store none. Before a record is saved, every other unit's signature whose bit it has is
- *     saved, also those that came with an MBRB_KEPT that was itself not saved.
+ *     none. After a refusal and after MBRB_NOTED store none here: what is noted is not sent, and a bundle that delivers
+ *     it after all brings its signatures with it. Before a record is saved, every other unit's signature whose bit it
+ *     has at MBRB_SIGNERS_AT is saved, also those that came with an MBRB_KEPT that was itself not saved. The bits of a
+ *     note need none.
  *   - Store a slot's body with its signatures. Where another body comes to be stored, begin the slot anew: it does so
  *     where MBRB_DELIVERED gives an `out` without our bit, and may do so after a restart. An `out` of the first body
  *     need not be sent any more. Signatures may be deleted once the delivered `out` is sent for the last time, and
@@ -177,13 +184,13 @@
  *   2, 3, 5 to 8   noise on the radio, or a faulty unit: drop the bundle
  *   4              a bundle of another day: early or late, or a clock is wrong there or here
  *   22             usual: others send on what they deliver
- *   24             its sender has signed two bodies and is faulty: worth a note to the installer. The slot may still be
- *                  delivered
+ *   24             its sender has signed three bodies in one slot and is faulty: as after MBRB_NOTED (section 12), but
+ *                  this one is not noted. The slot may still be delivered
  *   25             no more announcements until the next day
  *   27             usual: too few senders have a setpoint that is delivered here. Go on as before (section 13)
  *
  * 21, MBRB_UNSOUND_RECORD: the record is not one that these calls leave. The day was not opened (which is not noticed
- * where the bytes happen to be zero), the table is another one (with a stricter quorum, for instance), 32 bytes are
+ * where the bytes happen to be zero), the table is another one (with a stricter quorum, for instance), 64 bytes are
  * half old and half new, or something else wrote there. Taking, preview and announcing look at the records that they
  * need; mbrb_setpoint looks at all of them, and may be the first to see it. Make no more calls on these records, do not
  * repair them, and do not open this day again. Where a copy holds exactly what was saved last, load it as after a
@@ -204,11 +211,13 @@
  * none, that taking and announcing write to the record of their slot and to no other, that taking answers by this
  * record, the input, the table and the lengths, and announcing by our own sixteen records besides, that a preview gives
  * taking's code and `out` and leaves the records, that mbrb_setpoint leaves them too and stays between the setpoints of
- * sound senders, as section 13 says, and that a call ends.
+ * sound senders, as section 13 says, that what a record notes changes neither what is delivered nor what is sent, and
+ * that a call ends.
  * Proved of whole lists of calls at sound units, for each quorum that is allowed: agreement, at most one delivery and
  * two sendings in a slot, only announced bodies in a sound sender's slots, and delivery as in section 7; that 21 does
- * not come there, nor 23 where the bits are true; that previews between the calls change nothing of it; and that what
- * mbrb_setpoint pools of a sound sender is something that this sender announced.
+ * not come there, nor 23 where the bits are true; that previews between the calls change nothing of it; that what
+ * mbrb_setpoint pools of a sound sender is something that this sender announced; and that signers in a record are worth
+ * what section 12 says.
  * docs/CLAIMS.md has each with its file.
  *
  * Argued and not proved: that a host which keeps to sections 3 to 7, 12 and 13 is such a list. The lists know no
@@ -216,6 +225,7 @@
  * was seen by nobody, and what is proved of records says that calls on other slots give the same answers without it.
  * (Announcing looks at several slots, so an announcement is saved before the next call.) With a lost MBRB_KEPT all of
  * agreement stands, and in delivery that bundle counts as one that has not reached this unit, until it comes again.
+ * With a lost MBRB_NOTED agreement and delivery stand as if it were not lost: what a record notes changes none of them.
  * tests/power_cuts tries it on examples/host. Assumed: the Rattle kit, its logic with its checker, front end and back
  * end, and the host's memset.
  *
@@ -224,7 +234,7 @@
  *
  *   - Memory: MBRB_RECORDS_SIZE(n) bytes of records, which the host gives. The library allocates nothing and has no
  *     data of its own.
- *   - Stack: 64 bytes for mbrb_broadcast, 72 for mbrb_receive, 64 for mbrb_preview, 24 for mbrb_open, 208 for
+ *   - Stack: 72 bytes for mbrb_broadcast, 104 for mbrb_receive, 104 for mbrb_preview, 24 for mbrb_open, 240 for
  *     mbrb_setpoint, whatever they are given; and below mbrb_open what the host's memset takes. Besides, up to 48 bytes
  *     of arguments that the caller puts there. Each figure is the deepest chain of frames in the machine code, return
  *     addresses included: tests/call_graph adds them up, and tests/footprint sees the same on a stack that was painted
@@ -233,13 +243,15 @@
  *     another. All are called by name, none by a pointer. tests/call_graph looks at the whole call graph, that of the
  *     program which is proved and that of the machine code. The memset below mbrb_open is the host's, and not looked
  *     into.
- *   - Code: 1,664 bytes, 966 more where mbrb_preview is used, and 683 more where mbrb_setpoint is: each of the two
- *     is a member of its own in the library, and a host that does not call it does not link it. No vector or
- *     floating-point register is used, but in mbrb_setpoint. It clears 128 bytes of its stack by xmm0, so call it only
- *     where vector registers are saved for what it interrupts. The one symbol that the library takes from the host is
- *     memset, for mbrb_open.
- *   - mbrb_receive uses 16 bytes below the stack pointer (the red zone of the calling convention), mbrb_broadcast 8,
- *     mbrb_preview 8, and mbrb_setpoint 128, counted above. Where interrupts run on the stack of what they interrupt,
+ *   - Code: 1,511 bytes for mbrb_open and mbrb_receive, 625 more where mbrb_broadcast is used, 1,183 more where
+ *     mbrb_preview is, and 872 more where mbrb_setpoint is: each of these three is a member of its own in the library,
+ *     and a host that does not call it does not link it. The one symbol that the library takes from the host is memset,
+ *     for mbrb_open.
+ *   - Registers: no floating-point register is used, and of the vector registers xmm0 alone, by mbrb_broadcast,
+ *     mbrb_receive and mbrb_setpoint. The first two clear the second half of a record by it, the third 128 bytes of its
+ *     stack. So call these three only where vector registers are saved for what they interrupt.
+ *   - mbrb_receive uses 48 bytes below the stack pointer (the red zone of the calling convention), mbrb_broadcast 16,
+ *     mbrb_preview 48, and mbrb_setpoint 128, counted above. Where interrupts run on the stack of what they interrupt,
  *     they must leave the 128 bytes below it alone, as the convention asks.
  *   - Time: mbrb_open and mbrb_setpoint go through all records, so that theirs grows with n. mbrb_broadcast goes
  *     through our own, and the others look at one record.
@@ -262,11 +274,13 @@
  * changes nothing for any unit, which is proved (docs/CLAIMS.md, R14.20).
  *
  * A display may show
- *   - that the bundle would be kept, signed, delivered or refused, and why (section 8);
+ *   - that the bundle would be kept, noted, signed, delivered or refused, and why (section 8);
  *   - the signers that the record would have: at MBRB_SIGNED and MBRB_DELIVERED those in `out`, at MBRB_KEPT those of
- *     the record and of the bundle together.
+ *     the record and of the bundle together;
+ *   - at MBRB_NOTED those that the note would have: of the note that is there and of the bundle together.
  * It shows this as of now. A preview holds as long as the record of its slot stays the same: until a bundle of that
- * slot is taken, the day is opened, we announce in a slot of ours, or a restart loses an MBRB_KEPT that was not saved.
+ * slot is taken, the day is opened, we announce in a slot of ours, or a restart loses an MBRB_KEPT or an MBRB_NOTED
+ * that was not saved.
  *
  * Before a preview the host does what it does before taking, or else taking would do something else than was shown:
  *   - It compares the days (section 4), under the lock that spans the preview (section 3). Where the clock's is later,
@@ -282,6 +296,26 @@
  *   - Nobody acts on the body: MBRB_DELIVERED means that it would be delivered, not that it is.
  *   - The bundle is still to be taken. Until then it has not reached this unit (section 7).
  * At 21 and 23 the unit does what section 8 says, at the latest when taking gives them: they tell of its records.
+ *
+ * A second word. A sound unit signs one body in a slot. Where our record holds a body and a bundle brings another one,
+ * with too few signers to deliver it, mbrb_receive notes it: the second half of the record gets this body and the
+ * bundle's signers. The code is MBRB_NOTED, then and each time that this body comes again; its signers join those of
+ * the note. Another one yet, a third body, is refused (24). Where a single bundle with another body than the held one
+ * has a quorum, it is delivered as ever (MBRB_DELIVERED), whatever is noted, and the note is from then on what the
+ * record held, with our own bit. Once the slot is delivered no more is noted (22).
+ *   - A note is there where the eight bytes at MBRB_NOTED_SIGNERS_AT are not all zero. They are its signers, and its
+ *     body is at MBRB_NOTED_BODY_AT. It stays until the next opening, or until a quorum puts another one in its place.
+ *   - What is noted is not sent, acted on, pooled (section 13) or counted: a quorum of noted signers delivers nothing.
+ *     The cascade delivers what it would without notes.
+ *
+ * What a note is worth. Its sender is faulty: it has signed both bodies, that of the note and the one that the record
+ * holds or has delivered. The same is so after 24. This needs no more than true bits (section 6), so tell the
+ * installer: that unit, or whoever has its key, says two things. Of each other unit a bit says that it signed the body
+ * beside it, be it held, delivered or noted; and in the records of all sound units together, the bit of a sound unit
+ * stands beside one body of a slot at most. That there is no note says nothing: a faulty sender's two bodies need not
+ * meet at a unit. Where the signatures are to be shown to others, the host stores them apart from those of section 6:
+ * those that came with a noted bundle, and those that section 6 drops where another body than the held one is
+ * delivered.
  *
  *
  * 13. One setpoint from many
@@ -346,15 +380,15 @@ extern "C" {
 #endif
 
 /* The version of this interface and of the formats below. CHANGELOG.md says what each number stands for. */
-#define MBRB_VERSION_MAJOR 2
-#define MBRB_VERSION_MINOR 1
-#define MBRB_VERSION_PATCH 1
-#define MBRB_VERSION "2.1.1"
+#define MBRB_VERSION_MAJOR 3
+#define MBRB_VERSION_MINOR 0
+#define MBRB_VERSION_PATCH 0
+#define MBRB_VERSION "3.0.0"
 
 /* Sizes of the buffers, in bytes. */
 #define MBRB_BODY_SIZE 16
 #define MBRB_BUNDLE_SIZE 32 /* a bundle that comes in, and `out` */
-#define MBRB_RECORD_SIZE 32
+#define MBRB_RECORD_SIZE 64
 #define MBRB_NUMBERS 16 /* slots of one sender in a day: numbers 0 to 15 */
 #define MBRB_RECORDS_SIZE(n) ((size_t)(n) * MBRB_NUMBERS * MBRB_RECORD_SIZE)
 #define MBRB_UNITS_MAX 64
@@ -366,7 +400,8 @@ extern "C" {
 #define MBRB_LEAST_QUORUM(n, t) ((uint32_t)(((uint32_t)(n) + (uint32_t)(t)) / 2u + 1u))
 #define MBRB_MOST_QUORUM(n, t, d) ((uint32_t)((uint32_t)(n) - (uint32_t)(t) - (uint32_t)(d)))
 
-/* A bundle, integers with the high byte first: where its fields start. The two bytes between number and signers are zero. */
+/* A bundle, integers with the high byte first: where its fields start. The two bytes between number and signers are
+ * zero. */
 #define MBRB_DAY_AT 0     /* 4 bytes */
 #define MBRB_SENDER_AT 4  /* 1 byte */
 #define MBRB_NUMBER_AT 5  /* 1 byte */
@@ -378,21 +413,25 @@ extern "C" {
 #define MBRB_SETPOINT_AT 1 /* 2 bytes */
 
 /* Where the record of a slot starts in the records. Its first byte is the state below; signers and body lie as in a
- * bundle, and what is left is zero. To save it, and for a display: of records that the calls have left. What is to be
- * acted on stands in `out` at MBRB_DELIVERED. */
+ * bundle. Its second half is for a second body of the slot (section 12): noted signers of zero mean that nothing is
+ * noted, and all of that half is then zero. What is left is zero. To save it, and for a display: of records that the
+ * calls have left. What is to be acted on stands in `out` at MBRB_DELIVERED. */
 #define MBRB_RECORD_AT(sender, number) (((size_t)(sender) * MBRB_NUMBERS + (number)) * MBRB_RECORD_SIZE)
 #define MBRB_RECORD_EMPTY 0
 #define MBRB_RECORD_HELD 1
 #define MBRB_RECORD_DELIVERED 2
+#define MBRB_NOTED_SIGNERS_AT 32 /* 8 bytes: a bit for each unit, as in a bundle */
+#define MBRB_NOTED_BODY_AT 48    /* 16 bytes */
 
 /* Code of mbrb_open. */
 #define MBRB_OPENED 0 /* the day is open: every byte of the records is zero */
 
-/* Codes of mbrb_receive, and of mbrb_preview. In a preview they say what taking would do: nothing is noted, signed or
- * delivered, and there is nothing to save, to send or to act on (section 12). */
-#define MBRB_KEPT 100      /* the signers are noted; nothing to send */
+/* Codes of mbrb_receive, and of mbrb_preview. In a preview they say what taking would do: nothing is kept, signed,
+ * delivered or noted, and there is nothing to save, to send or to act on (section 12). */
+#define MBRB_KEPT 100      /* the signers join those of the record; nothing to send */
 #define MBRB_SIGNED 101    /* we sign this body: save, then send `out` */
 #define MBRB_DELIVERED 102 /* the body is delivered: save, then send `out` and act on the body */
+#define MBRB_NOTED 103     /* its sender has signed another body too: noted for a display; nothing to send */
 
 /* Codes of mbrb_broadcast, 200 to 215: 200 plus the number that the announced body has: save, then send `out`. */
 #define MBRB_ANNOUNCED(number) (200u + (number))
@@ -425,8 +464,8 @@ extern "C" {
 #define MBRB_ALREADY_DELIVERED 22      /* [R P]       the slot is delivered already; this is usual, nothing is wrong */
 #define MBRB_OWN_SIGNATURE_UNKNOWN 23  /* [R P]       it has our signature, yet our record does not hold its body:
                                                       section 8 */
-#define MBRB_OTHER_BODY 24             /* [R P]       another body is held, and fewer than a quorum signed this one: its
-                                                      sender said two things */
+#define MBRB_OTHER_BODY 24             /* [R P]       another body is held and a third is noted, and fewer than a
+                                                      quorum signed this one: its sender says three things */
 #define MBRB_NO_FREE_NUMBER 25         /* [B]         our sixteen numbers of the day are used up */
 #define MBRB_TOO_FEW_SETPOINTS 27      /* [S]         fewer than 2t + 1 senders have a delivered setpoint; this is
                                                       usual, nothing is wrong: section 13 */

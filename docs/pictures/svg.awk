@@ -5,10 +5,12 @@ BEGIN {
     colour["announced"] = colour["signed"] = "#0b5394"
     colour["kept"] = grey
     colour["delivered"] = "#17662b"
+    colour["noted"] = "#8a4b00"
     colour["refused"] = "#a61b1b"
     fill["announced"] = fill["signed"] = "#e8f1fb"
     fill["kept"] = "#f1f2f4"
     fill["delivered"] = "#e2f4e6"
+    fill["noted"] = "#fff3df"
     fill["refused"] = "#ffffff"
 }
 
@@ -19,7 +21,7 @@ function begin(width, height, title, words) {
     printf " font-family=\"Helvetica, Arial, 'DejaVu Sans', sans-serif\" font-size=\"13\" fill=\"%s\">\n", ink
     printf "<title id=\"title\">%s</title>\n<desc id=\"description\">%s</desc>\n<defs>\n", title, words
     # an array has no order of its own
-    head("announced"); head("signed"); head("kept"); head("delivered"); head("refused")
+    head("announced"); head("signed"); head("kept"); head("delivered"); head("noted"); head("refused")
     print "</defs>"
     printf "<rect width=\"%d\" height=\"%d\" fill=\"#ffffff\"/>\n", width, height
     text(20, 32, title, "font-size=\"20\" font-weight=\"bold\"")
@@ -38,12 +40,16 @@ function box(x, y, width, height, inside, outside, style) {
     printf "<rect x=\"%d\" y=\"%d\" width=\"%d\" height=\"%d\" rx=\"6\" fill=\"%s\" stroke=\"%s\" %s/>\n", x, y, width, height, inside, outside, style
 }
 
-# For eyes that do not tell the colours apart a box is thick where it is delivered, and box and line are dashed where it is refused.
+# For eyes that do not tell the colours apart a box is thick where it is delivered, box and line are dashed where it is refused, and dotted where it is
+# noted.
 function edge(answer) {
     return "stroke-width=\"" (answer == "delivered" ? 2.5 : 1.5) "\"" dashed(answer)
 }
 
-function dashed(answer) { return answer == "refused" ? " stroke-dasharray=\"5 3\"" : "" }
+function dashed(answer) {
+    if (answer == "refused") return " stroke-dasharray=\"5 3\""
+    return answer == "noted" ? " stroke-dasharray=\"2 2\"" : ""
+}
 
 function line(x, y, to_x, to_y, answer, width, end) {
     printf "<line x1=\"%d\" y1=\"%d\" x2=\"%d\" y2=\"%d\"", x, y, to_x, to_y

@@ -1,6 +1,7 @@
 /* Every code of include/mbrb.h, provoked once: its number and name as the header has them, and what the call gave. Each bundle is
- * previewed before it is taken. Then what the header says of places and bytes, what a stricter quorum does, what happens to a host that
- * gives the records of a day another day or another quorum, and which setpoint comes out of many.
+ * previewed before it is taken. Then what the header says of places and bytes, what is noted where a sender says two things in a slot,
+ * what a stricter quorum does, what happens to a host that gives the records of a day another day or another quorum, and which setpoint
+ * comes out of many.
  *
  * Four units, of which one may be faulty, with the least quorum, which is 3; we are unit 1, on day 7. Each call starts from the records that
  * its line needs. The stricter quorum is that of a site with eight units.
@@ -31,7 +32,7 @@ static uint8_t bundle[MBRB_BUNDLE_SIZE];
 static uint8_t body[MBRB_BODY_SIZE];
 static uint8_t out[MBRB_BUNDLE_SIZE];
 static int differ;
-static uint8_t previewed[MBRB_DELIVERED + 1]; /* the codes that a preview gave, and then taking */
+static uint8_t previewed[MBRB_NOTED + 1]; /* the codes that a preview gave, and then taking */
 
 static void told(const char *name, uint32_t expected, uint32_t code)
 {
@@ -170,6 +171,8 @@ static void refused_from_the_state(void)
     bring(1, 'a');
     take();
     bring(1, 'b');
+    take(); /* noted, and so the next one is the third */
+    bring(1, 'c');
     TOLD(MBRB_OTHER_BODY, take());
     bring(1 | 4, 'a');
     take();
@@ -193,6 +196,8 @@ static void done(void)
     bring(1, 'a');
     TOLD(MBRB_SIGNED, take());
     TOLD(MBRB_KEPT, take());
+    bring(1, 'b');
+    TOLD(MBRB_NOTED, take());
     bring(1 | 8, 'a');
     TOLD(MBRB_DELIVERED, take());
     TOLD(MBRB_OPENED, open_by(bears_a_loss, MBRB_RECORDS_SIZE(3)));
@@ -245,6 +250,131 @@ static void places(void)
     printf("announced %d as number %" PRIu32, MBRB_IS_ANNOUNCED(code), MBRB_NUMBER(code));
     printf(", record %d at %d of %d, of %d units at most\n", records[MBRB_RECORD_AT(1, 1)] == MBRB_RECORD_HELD,
            (int)MBRB_RECORD_AT(1, 1), (int)RECORDS, MBRB_UNITS_MAX);
+}
+
+/* The record of sender 0, number 0 is held or delivered with this body and these signers, and it notes these. With no noted signers it
+ * notes nothing, and that half is zero. Bytes are looked at one by one: those that are no field are zero. */
+static void told_record(const char *of, uint8_t state, unsigned signers, char text, unsigned noted_signers, char noted_text)
+{
+    const uint8_t *record = records + MBRB_RECORD_AT(0, 0);
+    uint8_t expected[MBRB_RECORD_SIZE] = {0};
+
+    expected[0] = state;
+    expected[MBRB_SIGNERS_AT + 7] = (uint8_t)signers;
+    memset(expected + MBRB_BODY_AT, text, MBRB_BODY_SIZE);
+    expected[MBRB_NOTED_SIGNERS_AT + 7] = (uint8_t)noted_signers;
+    memset(expected + MBRB_NOTED_BODY_AT, noted_signers == 0 ? 0 : noted_text, MBRB_BODY_SIZE);
+    printf("    %s %d %c, ", record[0] == MBRB_RECORD_DELIVERED ? "delivered" : "held", record[MBRB_SIGNERS_AT + 7], record[MBRB_BODY_AT]);
+    if (record[MBRB_NOTED_SIGNERS_AT + 7] != 0)
+        printf("noted %d %c: %s\n", record[MBRB_NOTED_SIGNERS_AT + 7], record[MBRB_NOTED_BODY_AT], of);
+    else
+        printf("nothing noted: %s\n", of);
+    if (memcmp(record, expected, sizeof expected) != 0) {
+        puts("    the header has another record");
+        differ = 1;
+    }
+}
+
+/* A bundle that sends nothing: `out` stays as it is. */
+static uint32_t take_and_send_nothing(unsigned signers, char text)
+{
+    uint8_t sent[sizeof out];
+    uint32_t code;
+
+    memcpy(sent, out, sizeof out);
+    bring(signers, text);
+    code = take();
+    if (memcmp(out, sent, sizeof out) != 0) {
+        puts("    and `out` has changed");
+        differ = 1;
+    }
+    return code;
+}
+
+/* One that is refused: the records stay as well. */
+static uint32_t take_and_refuse(unsigned signers, char text)
+{
+    uint8_t before[sizeof records];
+    uint32_t code;
+
+    memcpy(before, records, sizeof records);
+    code = take_and_send_nothing(signers, text);
+    if (memcmp(records, before, sizeof records) != 0) {
+        puts("    and the records have changed");
+        differ = 1;
+    }
+    return code;
+}
+
+/* A record of which one byte is no more what the calls have left, and then is again. */
+static void refused_record(size_t at, uint8_t value)
+{
+    uint8_t *byte = records + MBRB_RECORD_AT(0, 0) + at;
+    const uint8_t before = *byte;
+
+    *byte = value;
+    TOLD(MBRB_UNSOUND_RECORD, take_and_refuse(1, 'b'));
+    *byte = before;
+}
+
+/* Sender 0 says two things in a slot, and then a third. A quorum is three signers. */
+static void second_words(void)
+{
+    puts("sender 0 says a, then b, then c; signers are 1 for unit 0, 2 for us, 4 for unit 2 and 8 for unit 3");
+    open_day();
+    bring(1, 'a');
+    TOLD(MBRB_SIGNED, take());
+    told_record("we have signed a", MBRB_RECORD_HELD, 3, 'a', 0, 0);
+    TOLD(MBRB_NOTED, take_and_send_nothing(1, 'b'));
+    told_record("a second body", MBRB_RECORD_HELD, 3, 'a', 1, 'b');
+    TOLD(MBRB_NOTED, take_and_send_nothing(1 | 4, 'b'));
+    told_record("with one more signer", MBRB_RECORD_HELD, 3, 'a', 5, 'b');
+    TOLD(MBRB_NOTED, take_and_send_nothing(1 | 8, 'b'));
+    told_record("three noted signers, which deliver nothing", MBRB_RECORD_HELD, 3, 'a', 13, 'b');
+    TOLD(MBRB_NOTED, take_and_send_nothing(1, 'b'));
+    told_record("and no new one", MBRB_RECORD_HELD, 3, 'a', 13, 'b');
+    TOLD(MBRB_OTHER_BODY, take_and_refuse(1 | 4, 'c'));
+    TOLD(MBRB_OWN_SIGNATURE_UNKNOWN, take_and_refuse(1 | 2, 'b'));
+    TOLD(MBRB_OWN_SIGNATURE_UNKNOWN, take_and_refuse(1 | 2, 'c'));
+    TOLD(MBRB_KEPT, take_and_send_nothing(1, 'a'));
+    told_record("the first body again", MBRB_RECORD_HELD, 3, 'a', 13, 'b');
+    bring(1 | 4 | 8, 'b');
+    TOLD(MBRB_DELIVERED, take());
+    told_record("a quorum in one bundle, and what we had signed is noted", MBRB_RECORD_DELIVERED, 13, 'b', 3, 'a');
+    TOLD(MBRB_ALREADY_DELIVERED, take_and_refuse(1 | 4, 'a'));
+
+    open_day();
+    bring(1, 'a');
+    take();
+    bring(1, 'b');
+    take();
+    bring(1 | 4, 'a');
+    TOLD(MBRB_DELIVERED, take());
+    told_record("what we had signed is delivered, and the note stays", MBRB_RECORD_DELIVERED, 7, 'a', 1, 'b');
+
+    open_day();
+    bring(1, 'a');
+    take();
+    bring(1, 'b');
+    take();
+    bring(1 | 4 | 8, 'c');
+    TOLD(MBRB_DELIVERED, take());
+    told_record("a quorum for the third, and b is noted no more", MBRB_RECORD_DELIVERED, 13, 'c', 3, 'a');
+
+    puts("no note that the calls leave: in an empty record, without signers, with a byte between, without its sender, with a unit 4, with the held body");
+    open_day();
+    refused_record(MBRB_NOTED_SIGNERS_AT + 7, 1);
+    bring(1, 'a');
+    take();
+    refused_record(MBRB_NOTED_BODY_AT + 15, 'b');
+    bring(1 | 4, 'b');
+    take();
+    refused_record(MBRB_NOTED_SIGNERS_AT + 8, 1);
+    refused_record(MBRB_NOTED_SIGNERS_AT + 7, 4);
+    refused_record(MBRB_NOTED_SIGNERS_AT + 7, 1 | 16);
+    told_record("and as it was", MBRB_RECORD_HELD, 3, 'a', 5, 'b');
+    memset(records + MBRB_RECORD_AT(0, 0) + MBRB_NOTED_BODY_AT, 'a', MBRB_BODY_SIZE);
+    TOLD(MBRB_UNSOUND_RECORD, take_and_refuse(1, 'b'));
 }
 
 /* The least and the most quorum of good tables: n, t and d. */
@@ -354,15 +484,16 @@ static void quorums(void)
     refused_quorum(UINT32_MAX);
 }
 
-/* Where another body is held, 5 signers are enough for one quorum and too few for the other. So they are for a delivered record: with the
- * stricter quorum of another day a record of this one is not sound, at taking in its slot and at announcing, if it is one of ours. */
+/* Where another body is held, 5 signers are enough to deliver it by one quorum, and too few by the other, which notes it. So they are for a
+ * delivered record: with the stricter quorum of another day a record of this one is not sound, at taking in its slot and at announcing, if it
+ * is one of ours. */
 static void counted_by_the_quorum(void)
 {
     open_by(site(5), SITE_RECORDS);
     bring(1, 'a');
     take_there(5);
     bring(1 | 4 | 8 | 16 | 32, 'b');
-    TOLD(MBRB_OTHER_BODY, take_there(6));
+    TOLD(MBRB_NOTED, take_there(6));
     TOLD(MBRB_DELIVERED, take_there(5));
     TOLD(MBRB_UNSOUND_RECORD, take_there(6));
     TOLD(MBRB_ALREADY_DELIVERED, take_there(5));
@@ -449,8 +580,8 @@ static void setpoints(void)
     deliver_setpoint(2, 3, -5);
     told_setpoint("since -5 comes late, and 2200 is newer", 2150, pool());
 
-    /* Passed over: another first byte, a fourth and a last byte that are not zero, and a setpoint that is held. Each has a higher number, and
-     * without any of the three senders there are too few. */
+    /* Passed over: another first byte, a fourth and a last byte that are not zero, and setpoints that are held or noted. Each has a higher number,
+     * and without any of the three senders there are too few. */
     day_of("of 2150 2110 9500", 2150, 2110, 9500, 2150);
     bring_setpoint(0, 15, 1 | 4 | 8, -5);
     bundle[MBRB_BODY_AT] = 2;
@@ -463,7 +594,12 @@ static void setpoints(void)
     deliver(take());
     bring_setpoint(0, 14, 1, -5);
     TOLD(MBRB_SIGNED, take());
-    told_setpoint("since other bodies are passed over, and what is held", 2150, pool());
+    bring_setpoint(0, 14, 1 | 4, 9000);
+    TOLD(MBRB_NOTED, take());
+    bring_setpoint(2, 14, 4, 9000);
+    TOLD(MBRB_SIGNED, take());
+    deliver_setpoint(2, 14, 2110); /* and what was held is noted */
+    told_setpoint("since other bodies are passed over, and what is held or noted", 2150, pool());
     told_setpoint("on day 8 too, since the records do not hold their day", 2150, pool_by(of_day_8, RECORDS));
 
     day_of("hexadecimal fffb, of -2000 2150 -5", -2000, 2150, -5, -5);
@@ -503,6 +639,7 @@ int main(void)
     done();
     previews();
     places();
+    second_words();
     macros();
     yesterday();
     quorums();

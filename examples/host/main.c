@@ -1,6 +1,6 @@
-/* Four units of a cascade in one program, over a radio that is played from a list. Unit 3 is faulty: it says two things in one slot. Unit 2
- * loses power between a call and its sending, and restarts; an installer then looks at its display. In the end a new day begins, and each unit
- * heats by one setpoint of all, although the sensors of unit 3 are swapped.
+/* Four units of a cascade in one program, over a radio that is played from a list. Unit 3 is faulty: it says two things in one slot, and a
+ * third; units that hear that note it. Unit 2 loses power between a call and its sending, and restarts; an installer then looks at its display.
+ * In the end a new day begins, and each unit heats by one setpoint of all, although the sensors of unit 3 are swapped.
  *
  * The first half is to copy: open_day, announce, follow_setpoint, take, restart, show and preview face the library. The second half stands in
  * for a unit's hardware, the radio, the key chip and the clock, for what the site has set, and for the faulty unit. README.md says more;
@@ -42,13 +42,14 @@ static void send(uint8_t from, const uint8_t *bundle);
 static void check_signatures(uint8_t *bundle);
 static void act_on(uint8_t own, const uint8_t *body);
 static void set_curve(uint8_t own, int16_t hundredths);
+static void tell_installer(uint8_t own, uint8_t sender);
 static uint32_t clock_day(void);
 static uint32_t quorum_for(uint32_t day);
 static bool power_fails(const struct unit *unit);
 
 static void print_degrees(int16_t hundredths);
 static void print_slot(uint8_t sender, uint32_t number, const uint8_t *body);
-static void print_signers(const uint8_t *bundle);
+static void print_signers(const uint8_t *signers);
 static void print_bundle(const uint8_t *arrived, const uint8_t *checked);
 
 /* ---- A sound unit: the parts to copy */
@@ -83,8 +84,8 @@ static void open_day(struct unit *unit, bool is_new)
     printf("unit %d opens day %" PRIu32 ": %" PRIu32 "\n", unit->own, day, code);
 }
 
-/* What the last call gave to do is done and noted as done. If power fails between the two, restart does it again: to take the lead twice
- * does no harm (where it would, note it before acting), and the same bytes may be sent twice. */
+/* What the last call gave to do is done, and written down as done. If power fails between the two, restart does it again: to take the lead
+ * twice does no harm (where it would, write it down before acting), and the same bytes may be sent twice. */
 static void act_if_due(struct unit *unit)
 {
     if (unit->now.to_act_on) {
@@ -197,9 +198,13 @@ static const char *in_words(uint32_t code)
     case MBRB_ALREADY_DELIVERED:
         /* Usual: the other units send on what they deliver. */
         return "refused, delivered already";
+    case MBRB_NOTED:
+        /* The sender signed this body and the one that we hold, so it is faulty: take tells the installer. Nothing to send. The record has
+         * changed, for a display; it is saved with the next that must be. The slot may still be delivered. */
+        return "noted, its sender said two things";
     case MBRB_OTHER_BODY:
-        /* The sender signed both bodies, so it is faulty: worth a note to the installer. The slot may still be delivered. */
-        return "refused, its sender said two things";
+        /* Another body is noted already: the installer is told, and nothing has changed. */
+        return "refused, its sender said a third thing";
     case MBRB_OTHER_DAY:
         /* A late bundle of yesterday, or a unit whose clock is wrong. */
         return "refused, of another day";
@@ -241,6 +246,8 @@ static void take(struct unit *unit, const uint8_t *arrived)
     printf(": %" PRIu32 " %s\n", code, in_words(code));
     if (code == MBRB_SIGNED || code == MBRB_DELIVERED)
         save_and_send(unit, code == MBRB_DELIVERED);
+    if (code == MBRB_NOTED || code == MBRB_OTHER_BODY)
+        tell_installer(unit->own, bundle[MBRB_SENDER_AT]);
     stop_if_lost(unit, code);
 }
 
@@ -256,7 +263,16 @@ static void restart(struct unit *unit)
     send_if_due(unit);     /* 5. send what is still to be sent; 6. go on */
 }
 
-/* What is delivered stays in the records until the day is over, for a display. Firmware acts in act_on and follow_setpoint, and not on this. */
+/* Section 12: a record has a note, of a second body in its slot, where it has noted signers. */
+static bool has_note(const uint8_t *record)
+{
+    static const uint8_t nobody[8];
+
+    return memcmp(record + MBRB_NOTED_SIGNERS_AT, nobody, sizeof nobody) != 0;
+}
+
+/* What is delivered or noted stays in the records until the day is over, for a display. Firmware acts in act_on and follow_setpoint, and not on
+ * this. */
 static void show(const struct unit *unit)
 {
     for (uint8_t sender = 0; sender < UNITS; sender++)
@@ -265,6 +281,13 @@ static void show(const struct unit *unit)
             if (record[0] == MBRB_RECORD_DELIVERED) {
                 printf("unit %d has delivered ", unit->own);
                 print_slot(sender, number, record + MBRB_BODY_AT);
+                print_signers(record + MBRB_SIGNERS_AT);
+                putchar('\n');
+            }
+            if (has_note(record)) {
+                printf("unit %d has noted ", unit->own);
+                print_slot(sender, number, record + MBRB_NOTED_BODY_AT);
+                print_signers(record + MBRB_NOTED_SIGNERS_AT);
                 putchar('\n');
             }
         }
@@ -289,7 +312,7 @@ static void preview(const struct unit *unit, const uint8_t *arrived)
     printf(": %" PRIu32 " would be %s", code, in_words(code));
     if (code == MBRB_SIGNED || code == MBRB_DELIVERED) {
         printf(", then");
-        print_signers(out);
+        print_signers(out + MBRB_SIGNERS_AT);
     }
     putchar('\n');
 }
@@ -329,6 +352,12 @@ static void set_curve(uint8_t own, int16_t hundredths)
     (void)hundredths;
 }
 
+/* Here the unit's display, or the service line, names the unit that says two things. Firmware tells it once a day, and not at each bundle. */
+static void tell_installer(uint8_t own, uint8_t sender)
+{
+    printf("unit %d tells the installer of unit %d\n", own, sender);
+}
+
 static bool power_fails(const struct unit *unit)
 {
     if (unit != without_power)
@@ -359,9 +388,14 @@ static void send(uint8_t from, const uint8_t *bundle)
 }
 
 /* Signers are 8 bytes, the high byte first: units 0 to 7 are in the last one. */
+static bool is_among(const uint8_t *signers, uint8_t unit)
+{
+    return (signers[7 - unit / 8] & SIGNER(unit % 8)) != 0;
+}
+
 static bool has_signed(const uint8_t *bundle, uint8_t unit)
 {
-    return (bundle[MBRB_SIGNERS_AT + 7 - unit / 8] & SIGNER(unit % 8)) != 0;
+    return is_among(bundle + MBRB_SIGNERS_AT, unit);
 }
 
 /* A signature of the unit on this day, sender, number and body exists once the unit has sent one. */
@@ -414,18 +448,18 @@ static void print_slot(uint8_t sender, uint32_t number, const uint8_t *body)
     }
 }
 
-static void print_signers(const uint8_t *bundle)
+static void print_signers(const uint8_t *signers)
 {
     printf(" signed by");
     for (uint8_t u = 0; u < UNITS; u++)
-        if (has_signed(bundle, u))
+        if (is_among(signers, u))
             printf(" %d", u);
 }
 
 static void print_bundle(const uint8_t *arrived, const uint8_t *checked)
 {
     print_slot(arrived[MBRB_SENDER_AT], arrived[MBRB_NUMBER_AT], arrived + MBRB_BODY_AT);
-    print_signers(checked);
+    print_signers(checked + MBRB_SIGNERS_AT);
     for (uint8_t u = 0; u < UNITS; u++)
         if (has_signed(arrived, u) && !has_signed(checked, u))
             printf(", not by %d", u);
@@ -462,37 +496,37 @@ static void hear(const uint8_t *bundle)
 /* ---- The run */
 
 /* Which sent bundle arrives where, in this order. With LOSSES 0, what a sound unit sends reaches units 0, 1 and 2. Its bytes count,
- * whoever brings them: 10 and 11 are the bytes of 9, and 12 and 13 those of 8, so none of these arrives everywhere by itself. What unit 3
+ * whoever brings them: 11 and 12 are the bytes of 10, and 13 and 14 those of 9, so none of these arrives everywhere by itself. What unit 3
  * sends reaches whom it will. */
 static const struct arrival {
     uint8_t bundle;
     uint8_t unit;
 } arrivals[] = {
-    {0, 1}, {1, 1},         /* unit 1 sends 4, the setpoint signed by 0 1, and 5, lead 1 signed by 1 3 */
-    {2, 0}, {2, 0},         /* unit 0 sends 6, lead 2 signed by 0 3; then the same once more */
+    {0, 1}, {1, 1},         /* unit 1 sends 5, the setpoint signed by 0 1, and 6, lead 1 signed by 1 3 */
+    {2, 0}, {2, 0},         /* unit 0 sends 7, lead 2 signed by 0 3; then the same once more */
     {3, 2},                 /* unit 0 has not signed this */
-    {5, 3}, {7, 0},         /* unit 3 sends 7, lead 1 with a quorum that it made up */
-    {6, 1},                 /* unit 1 has signed lead 1, and 2 signers are no quorum for lead 2 */
-    {4, 2}, {6, 2},         /* unit 2 has heard neither sender yet; after its restart it sends 8, signed by 0 1 2, then 9, signed by 0 2 3 */
+    {6, 3}, {8, 0},         /* unit 3 sends 8, lead 1 with a quorum that it made up; unit 0 has signed lead 2, and notes lead 1 */
+    {7, 1}, {4, 1},         /* unit 1 has signed lead 1, and 2 signers are no quorum for lead 2, which it notes; lead 0 is the third */
+    {5, 2}, {7, 2},         /* unit 2 has heard neither sender yet; after its restart it sends 9, signed by 0 1 2, then 10, signed by 0 2 3 */
     {2, 2},                 /* late */
-    {9, 1},                 /* a quorum for lead 2: unit 1 delivers what it has not signed, and sends 10 */
-    {5, 0}, {10, 0},        /* unit 0 sends 11 */
-    {0, 0}, {4, 0}, {8, 0}, /* its own announcement comes back, with more and more signers; it sends 12 */
-    {12, 1},                /* unit 1 sends 13 */
-    {0, 2}, {4, 1}, {13, 2}, {5, 1}, {5, 2}, {6, 0}, {11, 2}, /* late */
+    {10, 1},                /* a quorum for lead 2: unit 1 delivers what it has not signed, sends 11, and notes what it had signed */
+    {6, 0}, {11, 0},        /* unit 0 sends 12 */
+    {0, 0}, {5, 0}, {9, 0}, /* its own announcement comes back, with more and more signers; it sends 13 */
+    {13, 1},                /* unit 1 sends 14 */
+    {0, 2}, {5, 1}, {14, 2}, {6, 1}, {6, 2}, {7, 0}, {12, 2}, /* late */
 };
 
-/* The next day: bundles 14 to 17 are the setpoints that units 0 to 3 have announced, 22.00, 21.50, 21.00 and -0.05 C. */
+/* The next day: bundles 15 to 18 are the setpoints that units 0 to 3 have announced, 22.00, 21.50, 21.00 and -0.05 C. */
 static const struct arrival arrivals_of_day_8[] = {
-    {14, 1}, {15, 2}, {16, 0}, {17, 0}, /* each is signed by another unit: unit 1 sends 18, unit 2 sends 19, unit 0 sends 20 and 21 */
-    {18, 2}, {19, 0}, {20, 1},          /* a sound unit's setpoint is delivered at each; they send 22, 23 and 24 */
-    {21, 1}, {25, 2}, {25, 0},          /* that of unit 3 too, of which unit 1 has sent 25; two setpoints are too few */
-    {22, 0}, {22, 1},                   /* three: another one is in the middle at unit 0 than at unit 1, for now */
-    {23, 1}, {23, 2}, {24, 2}, {24, 0}, /* four at each: all heat by the same one */
+    {15, 1}, {16, 2}, {17, 0}, {18, 0}, /* each is signed by another unit: unit 1 sends 19, unit 2 sends 20, unit 0 sends 21 and 22 */
+    {19, 2}, {20, 0}, {21, 1},          /* a sound unit's setpoint is delivered at each; they send 23, 24 and 25 */
+    {22, 1}, {26, 2}, {26, 0},          /* that of unit 3 too, of which unit 1 has sent 26; two setpoints are too few */
+    {23, 0}, {23, 1},                   /* three: another one is in the middle at unit 0 than at unit 1, for now */
+    {24, 1}, {24, 2}, {25, 2}, {25, 0}, /* four at each: all heat by the same one */
 };
 
-#define LOSES_POWER 8 /* the place in the list above at which unit 2 loses power, and all that was not saved */
-#define LOOKED_AT 9   /* the place of the bundle that an installer sees waiting there, on the display of unit 2 */
+#define LOSES_POWER 9 /* the place in the list above at which unit 2 loses power, and all that was not saved */
+#define LOOKED_AT 10  /* the place of the bundle that an installer sees waiting there, on the display of unit 2 */
 
 int main(void)
 {
@@ -507,6 +541,7 @@ int main(void)
     lie(LIAR, SIGNER(LIAR), BODY("lead is unit 1  ")); /* bundle 1, for unit 1 */
     lie(LIAR, SIGNER(LIAR), BODY("lead is unit 2  ")); /* bundle 2, for units 0 and 2 */
     lie(0, SIGNER(0) | SIGNER(LIAR), forged);          /* bundle 3, in unit 0's name */
+    lie(LIAR, SIGNER(LIAR), BODY("lead is unit 0  ")); /* bundle 4, for unit 1 too */
 
     for (size_t i = 0; i < sizeof arrivals / sizeof arrivals[0]; i++) {
         struct unit *unit = &units[arrivals[i].unit % LIAR];
@@ -535,7 +570,7 @@ int main(void)
     for (uint8_t u = 0; u < LIAR; u++)
         open_day(&units[u], false);
     announce_setpoint(&units[0], 2200);
-    take(&units[1], sent[4].bundle);
+    take(&units[1], sent[5].bundle);
     announce_setpoint(&units[1], 2150);
     announce_setpoint(&units[2], 2100);
     lie(LIAR, SIGNER(LIAR), swapped);

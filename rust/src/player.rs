@@ -2,7 +2,7 @@
 //!
 //! A row is read, played and printed before the next one is looked at, so the memory does not grow with the input.
 
-use crate::reference::{broadcast, receive, Receipt, Refusal};
+use crate::reference::{broadcast, receive, Receipt, Refusal, SEQS};
 use crate::Config;
 use std::io::{self, BufRead, BufReader, Read, Write};
 
@@ -10,7 +10,6 @@ const TABLE_NAMES: &[u8] = b"units faults losses day quorum";
 const STEP_NAMES: &[u8] = b"act unit sender number signers body";
 const MOST_NODES: u8 = 8;
 const LONGEST_ROW: usize = 120;
-const SEQS: u8 = 16;
 /// Large enough that system calls cost little beside the rows of a buffer.
 const BUFFER: usize = 64 * 1024;
 
@@ -226,7 +225,7 @@ struct Node {
 impl Node {
     /// With the day opened.
     fn new(config: Config) -> Node {
-        let records = vec![0; 512 * usize::from(config.n)];
+        let records = vec![0; config.records_length()];
         Node { config, records }
     }
 
@@ -344,6 +343,7 @@ impl<W: Write> Printer<W> {
             Answer::Announced => self.end_of_answer(b" announced 0 ", 1),
             Answer::Received(Receipt::Kept(count)) => self.end_of_answer(b" kept 0 ", count),
             Answer::Received(Receipt::Signed(count)) => self.end_of_answer(b" signed 0 ", count),
+            Answer::Received(Receipt::Noted(count)) => self.end_of_answer(b" noted 0 ", count),
             Answer::Received(Receipt::Delivered(count)) => {
                 self.end_of_answer(b" delivered 0 ", count)
             }
@@ -543,6 +543,28 @@ sender number units percent
             let text = played(head + &steps);
             assert!(text.contains(&format!("\n2 B 1 {answer} 0 4\n")), "{text}");
         }
+    }
+
+    #[test]
+    fn a_second_payload_is_noted_with_its_own_count_and_delivers_nothing() {
+        let second = "f".repeat(32);
+        let third = "0".repeat(32);
+        let steps = [
+            ("0000000000000001", BODY, "signed 0 2"),
+            ("0000000000000001", &second, "noted 0 1"),
+            ("0000000000000005", &second, "noted 0 2"),
+            ("0000000000000009", &second, "noted 0 3"),
+            ("0000000000000003", &second, "refused 23 0"),
+            ("0000000000000005", &third, "refused 24 0"),
+            ("0000000000000001", BODY, "kept 0 2"),
+            ("000000000000000d", &third, "delivered 0 3"),
+        ];
+        let (mut given, mut printed) = (String::new(), String::new());
+        for (place, (signers, body, answer)) in (1..).zip(steps) {
+            given += &format!("B 1 0 0 {signers} {body}\n");
+            printed += &format!("{place} B 1 {answer}\n");
+        }
+        assert_eq!(rows(given), printed + "0 0 1 25\n");
     }
 
     #[test]

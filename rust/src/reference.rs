@@ -42,6 +42,8 @@ pub enum Receipt {
     Kept(u32),
     Signed(u32),
     Delivered(u32),
+    /// The bundle's payload is not the one held. The count is of the noted signers.
+    Noted(u32),
 }
 
 impl Receipt {
@@ -51,9 +53,22 @@ impl Receipt {
             Receipt::Kept(_) => 100,
             Receipt::Signed(_) => 101,
             Receipt::Delivered(_) => 102,
+            Receipt::Noted(_) => 103,
         }
     }
 }
+
+/// How many numbers a sender has in a day.
+pub const SEQS: u8 = 16;
+
+/// How many bytes a record has. The first half is a head, and the payload that is held or delivered, with its signers; the second half is
+/// another payload that the sender has signed, with its signers.
+pub const RECORD_LENGTH: usize = 64;
+
+/// How many bytes the records of a sender have.
+pub const SENDER_LENGTH: usize = RECORD_LENGTH * SEQS as usize;
+
+pub type RecordBytes = [u8; RECORD_LENGTH];
 
 /// The least quorum that a site may choose: two smaller ones may have no correct node in common.
 #[inline]
@@ -99,14 +114,16 @@ impl Config {
     /// Where the slot's record starts; 0 if the config is not good or the slot out of range.
     #[inline]
     pub fn place(&self, sender: u8, seq: u8) -> usize {
-        if !self.good() || sender >= self.n || seq > 15 {
+        if !self.good() || sender >= self.n || seq >= SEQS {
             return 0;
         }
-        32 * (16 * usize::from(sender) + usize::from(seq))
+        SENDER_LENGTH * usize::from(sender) + RECORD_LENGTH * usize::from(seq)
     }
 
-    fn records_length(&self) -> usize {
-        512 * usize::from(self.n)
+    /// How many bytes the records of a day have.
+    #[inline]
+    pub fn records_length(&self) -> usize {
+        SENDER_LENGTH * usize::from(self.n)
     }
 }
 
@@ -119,51 +136,93 @@ fn bit(node: u8) -> u64 {
     1 << node
 }
 
-/// Bundle and record are cut alike: a head of 8 bytes, the signers, the payload.
-fn split(bytes: &[u8; 32]) -> ([u8; 8], u64, [u8; 16]) {
-    let (words, _) = bytes.as_chunks::<8>();
-    let (halves, _) = bytes.as_chunks::<16>();
-    (words[0], u64::from_be_bytes(words[1]), halves[1])
+/// A payload with the nodes that have signed it.
+#[derive(Clone, Copy, PartialEq, Eq)]
+struct SignedPayload {
+    signers: u64,
+    payload: [u8; 16],
 }
 
-fn join(head: [u8; 8], signers: u64, payload: [u8; 16], bytes: &mut [u8; 32]) {
+impl SignedPayload {
+    /// Nobody has signed anything.
+    const NONE: SignedPayload = SignedPayload {
+        signers: 0,
+        payload: [0; 16],
+    };
+
+    fn signed_by(&self, node: u8) -> bool {
+        self.signers & bit(node) != 0
+    }
+
+    fn count(&self) -> u32 {
+        self.signers.count_ones()
+    }
+
+    fn with_signers(self, further: u64) -> SignedPayload {
+        let signers = self.signers | further;
+        SignedPayload { signers, ..self }
+    }
+}
+
+/// A bundle and the first half of a record are cut alike: a head of 8 bytes, the signers, the payload.
+fn split(bytes: &[u8; 32]) -> ([u8; 8], SignedPayload) {
+    let (words, _) = bytes.as_chunks::<8>();
+    let (halves, _) = bytes.as_chunks::<16>();
+    let (signers, payload) = (u64::from_be_bytes(words[1]), halves[1]);
+    (words[0], SignedPayload { signers, payload })
+}
+
+fn join(head: [u8; 8], signed: &SignedPayload, bytes: &mut [u8; 32]) {
     bytes[..8].copy_from_slice(&head);
-    bytes[8..16].copy_from_slice(&signers.to_be_bytes());
-    bytes[16..].copy_from_slice(&payload);
+    bytes[8..16].copy_from_slice(&signed.signers.to_be_bytes());
+    bytes[16..].copy_from_slice(&signed.payload);
+}
+
+/// The second half of a record: the noted signers, 8 bytes that are zero, the noted payload.
+fn split_note(bytes: &[u8; 32]) -> (SignedPayload, [u8; 8]) {
+    let (words, _) = bytes.as_chunks::<8>();
+    let (halves, _) = bytes.as_chunks::<16>();
+    let (signers, payload) = (u64::from_be_bytes(words[0]), halves[1]);
+    (SignedPayload { signers, payload }, words[1])
+}
+
+fn join_note(noted: &SignedPayload, bytes: &mut [u8; 32]) {
+    bytes[..8].copy_from_slice(&noted.signers.to_be_bytes());
+    bytes[8..16].fill(0);
+    bytes[16..].copy_from_slice(&noted.payload);
 }
 
 /// A readable bundle; its day is the config's.
 struct Bundle {
     sender: u8,
     seq: u8,
-    signers: u64,
-    payload: [u8; 16],
+    signed: SignedPayload,
 }
 
 impl Bundle {
     fn read(config: &Config, bytes: &[u8]) -> Result<Bundle, Refusal> {
         require(config.good(), Refusal::ConfigNotGood)?;
         let bytes = bytes.try_into().map_err(|_| Refusal::BundleLength)?;
-        let ([d0, d1, d2, d3, sender, seq, reserved @ ..], signers, payload) = split(bytes);
+        let ([d0, d1, d2, d3, sender, seq, reserved @ ..], signed) = split(bytes);
         let day = u32::from_be_bytes([d0, d1, d2, d3]);
         require(reserved == [0, 0], Refusal::ReservedNotZero)?;
         require(day == config.day, Refusal::OtherDay)?;
         require(sender < config.n, Refusal::SenderOutOfRange)?;
-        require(seq <= 15, Refusal::SeqOutOfRange)?;
-        require(signers & !config.mask() == 0, Refusal::SignerOutOfRange)?;
-        require(signers & bit(sender) != 0, Refusal::SenderNotSigner)?;
+        require(seq < SEQS, Refusal::SeqOutOfRange)?;
+        let in_range = signed.signers & !config.mask() == 0;
+        require(in_range, Refusal::SignerOutOfRange)?;
+        require(signed.signed_by(sender), Refusal::SenderNotSigner)?;
         Ok(Bundle {
             sender,
             seq,
-            signers,
-            payload,
+            signed,
         })
     }
 
     fn write(&self, day: u32, out: &mut [u8; 32]) {
         let [d0, d1, d2, d3] = day.to_be_bytes();
         let head = [d0, d1, d2, d3, self.sender, self.seq, 0, 0];
-        join(head, self.signers, self.payload, out);
+        join(head, &self.signed, out);
     }
 }
 
@@ -186,62 +245,109 @@ impl State {
 }
 
 /// A well-formed record; the rules call it sound.
+#[derive(Clone, Copy)]
 struct Record {
     state: State,
-    signers: u64,
-    payload: [u8; 16],
+    /// what is held or delivered
+    first: SignedPayload,
+    /// another payload that the sender has signed, or nothing
+    noted: SignedPayload,
 }
 
 impl Record {
     // Inlined, it shares the caller's check of the config instead of repeating it.
     #[inline(always)]
-    fn read(config: &Config, sender: u8, bytes: &[u8; 32]) -> Result<Record, Refusal> {
-        let (head, signers, payload) = split(bytes);
+    fn read(config: &Config, sender: u8, bytes: &RecordBytes) -> Result<Record, Refusal> {
+        let (halves, _) = bytes.as_chunks();
+        let (head, first) = split(&halves[0]);
+        let (noted, reserved) = split_note(&halves[1]);
         let state = State::read(head).ok_or(Refusal::RecordMalformed)?;
-        let signed_by = |node| signers & bit(node) != 0;
-        let well_formed = match state {
-            State::Empty => signers == 0 && payload == [0; 16],
-            State::Held => signed_by(sender) && signed_by(config.own),
+        let nothing_noted = noted == SignedPayload::NONE;
+        let first_allowed = match state {
+            State::Empty => first == SignedPayload::NONE && nothing_noted,
+            State::Held => first.signed_by(sender) && first.signed_by(config.own),
             // Our bit is missing where a quorum for another payload has replaced ours.
-            State::Delivered => signed_by(sender) && signers.count_ones() >= config.quorum(),
+            State::Delivered => first.signed_by(sender) && first.count() >= config.quorum(),
         };
-        let in_range = signers & !config.mask() == 0;
-        require(in_range && well_formed, Refusal::RecordMalformed)?;
+        let note_allowed =
+            nothing_noted || noted.signed_by(sender) && noted.payload != first.payload;
+        let in_range = (first.signers | noted.signers) & !config.mask() == 0;
+        let well_formed = first_allowed && note_allowed && in_range && reserved == [0; 8];
+        require(well_formed, Refusal::RecordMalformed)?;
         Ok(Record {
             state,
-            signers,
-            payload,
+            first,
+            noted,
         })
     }
 
-    fn store(&self, bytes: &mut [u8; 32]) {
+    fn store(&self, bytes: &mut RecordBytes) {
+        let (halves, _) = bytes.as_chunks_mut();
         let head = (self.state as u64).to_be_bytes();
-        join(head, self.signers, self.payload, bytes);
+        join(head, &self.first, &mut halves[0]);
+        join_note(&self.noted, &mut halves[1]);
     }
 
-    /// The signers of the bundle's payload once the bundle is received on this record.
-    fn signers_with(&self, config: &Config, bundle: &Bundle) -> Result<u64, Refusal> {
-        let own = bit(config.own);
+    /// What is answered to a bundle that brings this, and the record afterwards.
+    #[inline(always)]
+    fn receive(
+        self,
+        config: &Config,
+        brought: SignedPayload,
+    ) -> Result<(Receipt, Record), Refusal> {
         match self.state {
             State::Delivered => Err(Refusal::AlreadyDelivered),
-            State::Held if self.payload == bundle.payload => Ok(self.signers | bundle.signers),
-            _ if bundle.signers & own != 0 => Err(Refusal::OwnSignatureNotHeld),
-            State::Empty => Ok(bundle.signers | own),
-            State::Held if bundle.signers.count_ones() < config.quorum() => {
-                Err(Refusal::OtherPayloadWithoutQuorum)
+            State::Held if self.first.payload == brought.payload => {
+                Ok(self.hold(config, self.first.with_signers(brought.signers)))
             }
-            // Who signed the payload held so far, we included, has not signed this one.
-            State::Held => Ok(bundle.signers),
+            _ if brought.signed_by(config.own) => Err(Refusal::OwnSignatureNotHeld),
+            State::Empty => Ok(self.hold(config, brought.with_signers(bit(config.own)))),
+            State::Held if brought.count() < config.quorum() => self.note(brought),
+            // What was held so far is noted, since its signers, we among them, have not signed this.
+            State::Held => {
+                let noted = self.first;
+                Ok(Record { noted, ..self }.hold(config, brought))
+            }
         }
+    }
+
+    /// Holds this, or delivers it if a quorum has signed it. Noted signers do not count, as they signed another payload.
+    #[inline(always)]
+    fn hold(self, config: &Config, first: SignedPayload) -> (Receipt, Record) {
+        let count = first.count();
+        let (state, receipt) = if count >= config.quorum() {
+            (State::Delivered, Receipt::Delivered(count))
+        } else if self.state == State::Empty {
+            (State::Held, Receipt::Signed(count))
+        } else {
+            (State::Held, Receipt::Kept(count))
+        };
+        let record = Record {
+            state,
+            first,
+            ..self
+        };
+        (receipt, record)
+    }
+
+    /// Notes this beside what is held. There is room for one payload: a third is refused.
+    #[inline(always)]
+    fn note(self, brought: SignedPayload) -> Result<(Receipt, Record), Refusal> {
+        // A note has its sender's signature at least, so without signers there is none.
+        let nothing_noted = self.noted.signers == 0;
+        let room = nothing_noted || self.noted.payload == brought.payload;
+        require(room, Refusal::OtherPayloadWithoutQuorum)?;
+        let noted = brought.with_signers(self.noted.signers);
+        Ok((Receipt::Noted(noted.count()), Record { noted, ..self }))
     }
 }
 
 /// The first empty of our own records, with its number. A malformed one before it refuses; those behind it do not matter.
 fn first_empty<'a>(
     config: &Config,
-    own_records: &'a mut [[u8; 32]],
-) -> Result<(u8, &'a mut [u8; 32]), Refusal> {
-    for (seq, bytes) in (0..16).zip(own_records) {
+    own_records: &'a mut [RecordBytes],
+) -> Result<(u8, &'a mut RecordBytes), Refusal> {
+    for (seq, bytes) in (0..SEQS).zip(own_records) {
         if Record::read(config, config.own, bytes)?.state == State::Empty {
             return Ok((seq, bytes));
         }
@@ -271,20 +377,21 @@ pub fn broadcast(
     let out = out.try_into().map_err(|_| Refusal::OutLength)?;
     let complete = records.len() == config.records_length();
     require(complete, Refusal::RecordsLength)?;
-    let (own_records, _) = records[config.place(config.own, 0)..][..512].as_chunks_mut();
+    let from_own = &mut records[config.place(config.own, 0)..];
+    let (own_records, _) = from_own[..SENDER_LENGTH].as_chunks_mut();
     let (seq, bytes) = first_empty(config, own_records)?;
-    let (sender, state, signers) = (config.own, State::Held, bit(config.own));
+    let (sender, signers) = (config.own, bit(config.own));
+    let signed = SignedPayload { signers, payload };
     Record {
-        state,
-        signers,
-        payload,
+        state: State::Held,
+        first: signed,
+        noted: SignedPayload::NONE,
     }
     .store(bytes);
     Bundle {
         sender,
         seq,
-        signers,
-        payload,
+        signed,
     }
     .write(config.day, out);
     Ok(seq)
@@ -315,24 +422,11 @@ fn foresee(
     let place = config.place(bundle.sender, bundle.seq);
     let (from_slot, _) = records[place..].as_chunks();
     let before = Record::read(config, bundle.sender, &from_slot[0])?;
-    let signers = before.signers_with(config, &bundle)?;
-    let count = signers.count_ones();
-    let (state, receipt) = if count >= config.quorum() {
-        (State::Delivered, Receipt::Delivered(count))
-    } else if before.state == State::Empty {
-        (State::Held, Receipt::Signed(count))
-    } else {
-        (State::Held, Receipt::Kept(count))
-    };
-    let payload = bundle.payload;
-    if !matches!(receipt, Receipt::Kept(_)) {
-        Bundle { signers, ..bundle }.write(config.day, out);
+    let (receipt, record) = before.receive(config, bundle.signed)?;
+    if let Receipt::Signed(_) | Receipt::Delivered(_) = receipt {
+        let signed = record.first;
+        Bundle { signed, ..bundle }.write(config.day, out);
     }
-    let record = Record {
-        state,
-        signers,
-        payload,
-    };
     Ok(Outcome {
         receipt,
         place,
@@ -341,7 +435,7 @@ fn foresee(
 }
 
 /// Takes the bundle into its slot's record. Signed or delivered, the bundle to send is in `out`;
-/// at kept `out` stays as it is. The rules: taking.
+/// at kept and noted `out` stays as it is. The rules: taking.
 pub fn receive(
     config: &Config,
     bundle: &[u8],
@@ -380,13 +474,13 @@ fn setpoint_in(payload: [u8; 16]) -> Option<i16> {
 fn last_setpoint(
     config: &Config,
     sender: u8,
-    records: &[[u8; 32]; 16],
+    records: &[RecordBytes; SEQS as usize],
 ) -> Result<Option<i16>, Refusal> {
     let mut last = None;
     for bytes in records {
         let record = Record::read(config, sender, bytes)?;
         if record.state == State::Delivered {
-            last = setpoint_in(record.payload).or(last);
+            last = setpoint_in(record.first.payload).or(last);
         }
     }
     Ok(last)
@@ -454,7 +548,11 @@ mod tests {
 
     const PAYLOAD: [u8; 16] = [0, 1, 2, 3, 4, 5, 6, 7, 8, 9, 10, 11, 12, 13, 14, 15];
     const OTHER: [u8; 16] = [0; 16];
+    const THIRD: [u8; 16] = [3; 16];
     const UNSENT: [u8; 32] = [0xee; 32];
+    const EMPTY: RecordBytes = [0; RECORD_LENGTH];
+    /// The length of the records of four nodes.
+    const LENGTH: usize = 4096;
 
     /// With the least quorum.
     fn config(n: u8, t: u8, d: u8, own: u8) -> Config {
@@ -479,29 +577,42 @@ mod tests {
         bytes([0, 0, 0, 7, 0, 0, 0, 0], signers, payload)
     }
 
-    fn record(state: u8, signers: u64, payload: [u8; 16]) -> [u8; 32] {
-        bytes([state, 0, 0, 0, 0, 0, 0, 0], signers, payload)
+    /// With nothing noted.
+    fn record(state: u8, signers: u64, payload: [u8; 16]) -> RecordBytes {
+        let first = bytes([state, 0, 0, 0, 0, 0, 0, 0], signers, payload);
+        [first, [0; 32]].concat().try_into().unwrap()
+    }
+
+    /// The record with this noted in it.
+    fn noting(mut record: RecordBytes, signers: u64, payload: [u8; 16]) -> RecordBytes {
+        record[32..40].copy_from_slice(&signers.to_be_bytes());
+        record[48..].copy_from_slice(&payload);
+        record
     }
 
     /// Receives at node 1 of 4, 1, 0, as `receive_at` does.
-    fn receive_on(before: [u8; 32], bundle: [u8; 32]) -> (u32, [u8; 32], [u8; 32]) {
+    fn receive_on(before: RecordBytes, bundle: [u8; 32]) -> (u32, RecordBytes, [u8; 32]) {
         receive_at(config(4, 1, 0, 1), before, bundle)
     }
 
     /// Receives at a node whose record of the slot is `before`, after a preview with the same outcome;
     /// gives the code, the record afterwards and the outgoing bytes.
-    fn receive_at(config: Config, before: [u8; 32], bundle: [u8; 32]) -> (u32, [u8; 32], [u8; 32]) {
-        let mut records = vec![[0; 32]; 16 * usize::from(config.n)];
+    fn receive_at(
+        config: Config,
+        before: RecordBytes,
+        bundle: [u8; 32],
+    ) -> (u32, RecordBytes, [u8; 32]) {
+        let mut records = vec![EMPTY; 16 * usize::from(config.n)];
         records[0] = before;
         let [mut foreseen, mut out] = [UNSENT; 2];
         let previewed = preview_code(&config, &bundle, records.as_flattened(), &mut foreseen);
         let code = receive_code(&config, &bundle, records.as_flattened_mut(), &mut out);
         assert_eq!((previewed, foreseen), (code, out));
-        assert!(records[1..].iter().all(|record| *record == [0; 32]));
+        assert!(records[1..].iter().all(|record| *record == EMPTY));
         (code, records[0], out)
     }
 
-    fn assert_refused(number: u32, before: [u8; 32], bundle: [u8; 32]) {
+    fn assert_refused(number: u32, before: RecordBytes, bundle: [u8; 32]) {
         assert_eq!(receive_on(before, bundle), (number, before, UNSENT));
     }
 
@@ -568,12 +679,15 @@ mod tests {
             });
             // The record, the signers of the bundle and its payload, and the code.
             let rows = [
-                ([0; 32], others(q - 2), PAYLOAD, 101),
-                ([0; 32], others(q - 1), PAYLOAD, 102),
+                (EMPTY, others(q - 2), PAYLOAD, 101),
+                (EMPTY, others(q - 1), PAYLOAD, 102),
                 (held, others(q - 2), PAYLOAD, 100),
                 (held, others(q - 1), PAYLOAD, 102),
-                (held, others(q - 1), OTHER, 24),
+                (held, others(q - 1), OTHER, 103),
                 (held, others(q), OTHER, 102),
+                (noting(held, others(q), OTHER), others(q - 1), OTHER, 103),
+                (noting(held, others(q), OTHER), others(q - 1), THIRD, 24),
+                (noting(held, others(q), OTHER), others(q), THIRD, 102),
                 (delivered(q - 1), 1, PAYLOAD, 21),
                 (delivered(q), 1, PAYLOAD, 22),
             ];
@@ -582,9 +696,10 @@ mod tests {
                 assert_eq!(received.0, code, "q = {q}");
             }
             for (count, code) in [(q - 1, 21), (q, 201)] {
-                let (mut records, ours) = ([0; 512 * 7], record(2, others(count - 1) | 2, PAYLOAD));
-                records[512..544].copy_from_slice(&ours);
-                let announced = broadcast_code(&config, &PAYLOAD, &mut records, &mut [0; 32]);
+                let mut records = [EMPTY; 16 * 7];
+                records[16] = record(2, others(count - 1) | 2, PAYLOAD);
+                let records = records.as_flattened_mut();
+                let announced = broadcast_code(&config, &PAYLOAD, records, &mut [0; 32]);
                 assert_eq!(announced, code, "q = {q}");
             }
         }
@@ -595,7 +710,7 @@ mod tests {
         for (n, mask) in [(0, 0), (1, 1), (4, 15), (64, u64::MAX), (65, 0)] {
             assert_eq!(config(n, 0, 0, 0).mask(), mask);
         }
-        for (sender, seq, place) in [(0, 1, 32), (3, 15, 2016), (4, 0, 0), (3, 16, 0)] {
+        for (sender, seq, place) in [(0, 1, 64), (3, 15, 4032), (4, 0, 0), (3, 16, 0)] {
             assert_eq!(config(4, 1, 0, 0).place(sender, seq), place);
         }
         let without_quorum = Config {
@@ -609,7 +724,7 @@ mod tests {
 
     #[test]
     fn the_play() {
-        let (mut records, mut out) = ([[0; 2048]; 4], UNSENT);
+        let (mut records, mut out) = ([[0; LENGTH]; 4], UNSENT);
         let announced = broadcast(&config(4, 1, 0, 0), &PAYLOAD, &mut records[0], &mut out);
         assert_eq!((announced, out), (Ok(0), bundle(1, PAYLOAD)));
         let steps = [
@@ -630,17 +745,105 @@ mod tests {
             assert_eq!((received, out), (answer, sent));
         }
         let (held, delivered) = (record(1, 3, PAYLOAD), record(2, 7, PAYLOAD));
-        for (records, record) in records.iter().zip([delivered, held, delivered, [0; 32]]) {
+        for (records, record) in records.iter().zip([delivered, held, delivered, EMPTY]) {
             assert!(records.starts_with(&record));
         }
     }
 
     #[test]
-    fn a_quorum_replaces_another_payload_and_leaves_our_bit_out() {
-        let (delivered, sent) = (record(2, 13, OTHER), bundle(13, OTHER));
-        let received = receive_on(record(1, 3, PAYLOAD), sent);
-        assert_eq!(received, (102, delivered, sent));
+    fn a_quorum_replaces_another_payload_which_is_noted_over_any_note() {
+        let (held, sent) = (record(1, 3, PAYLOAD), bundle(13, OTHER));
+        // Our bit goes with the payload that we signed.
+        let delivered = noting(record(2, 13, OTHER), 3, PAYLOAD);
+        let (third, that_very) = (noting(held, 9, THIRD), noting(held, 5, OTHER));
+        let with_a_quorum = noting(held, 15, OTHER);
+        for before in [held, third, that_very, with_a_quorum] {
+            assert_eq!(receive_on(before, sent), (102, delivered, sent));
+        }
         assert_refused(22, delivered, bundle(15, OTHER));
+        assert_refused(22, delivered, bundle(1, PAYLOAD));
+        assert_refused(22, delivered, bundle(1, THIRD));
+    }
+
+    #[test]
+    fn a_second_payload_is_noted_and_nothing_is_sent() {
+        let held = record(1, 3, PAYLOAD);
+        for signers in [1, 5, 9] {
+            let received = receive_on(held, bundle(signers, OTHER));
+            assert_eq!(received, (103, noting(held, signers, OTHER), UNSENT));
+        }
+        // In our own slot the sender's bit is ours, and we know that we have not signed this.
+        let ours = config(4, 1, 0, 0);
+        let received = receive_at(ours, record(1, 1, PAYLOAD), bundle(5, OTHER));
+        assert_eq!(received.0, 23);
+    }
+
+    #[test]
+    fn signers_of_the_noted_payload_join_and_never_deliver() {
+        let noting = |signers| noting(record(1, 3, PAYLOAD), signers, OTHER);
+        // Noted before, brought, noted afterwards.
+        for (before, brought, after) in [(1, 1, 1), (1, 5, 5), (5, 9, 13), (13, 1, 13), (15, 9, 15)]
+        {
+            let received = receive_on(noting(before), bundle(brought, OTHER));
+            assert_eq!(received, (103, noting(after), UNSENT));
+        }
+    }
+
+    #[test]
+    fn the_count_at_noted_is_of_the_noted_signers() {
+        let config = config(7, 1, 0, 1);
+        let held = record(1, 0b111, PAYLOAD);
+        let counted = |before, signers| {
+            let mut records = vec![EMPTY; 16 * 7];
+            records[0] = before;
+            let records = records.as_flattened_mut();
+            let bundle = bundle(signers, OTHER);
+            let previewed = preview(&config, &bundle, records, &mut [0; 32]);
+            let received = receive(&config, &bundle, records, &mut [0; 32]);
+            assert_eq!(previewed, received);
+            received
+        };
+        assert_eq!(counted(held, 0b1), Ok(Receipt::Noted(1)));
+        assert_eq!(counted(held, 0b1101), Ok(Receipt::Noted(3)));
+        let noted = noting(held, 0b1001, OTHER);
+        assert_eq!(counted(noted, 0b1), Ok(Receipt::Noted(2)));
+        assert_eq!(counted(noted, 0b101_0001), Ok(Receipt::Noted(4)));
+        assert_eq!(counted(noted, 0b111_0001), Ok(Receipt::Noted(5)));
+    }
+
+    #[test]
+    fn a_third_payload_is_refused() {
+        let noted = noting(record(1, 3, PAYLOAD), 1, OTHER);
+        assert_refused(24, noted, bundle(1, THIRD));
+        assert_refused(24, noted, bundle(9, THIRD));
+    }
+
+    #[test]
+    fn our_bit_beside_the_noted_payload_is_refused() {
+        let held = record(1, 3, PAYLOAD);
+        // Even where our bit is noted, which no call does, or a quorum comes.
+        for before in [noting(held, 1, OTHER), noting(held, 3, OTHER)] {
+            assert_refused(23, before, bundle(3, OTHER));
+            assert_refused(23, before, bundle(15, OTHER));
+            assert_refused(23, before, bundle(3, THIRD));
+        }
+    }
+
+    #[test]
+    fn joining_leaves_the_note() {
+        let held = noting(record(1, 3, PAYLOAD), 5, OTHER);
+        assert_eq!(receive_on(held, bundle(1, PAYLOAD)), (100, held, UNSENT));
+        let delivered = noting(record(2, 11, PAYLOAD), 5, OTHER);
+        let received = receive_on(held, bundle(9, PAYLOAD));
+        assert_eq!(received, (102, delivered, bundle(11, PAYLOAD)));
+        // Here the noted signers would be the two that are missing.
+        let config = config(7, 1, 0, 1);
+        let [held, joined] = [3, 11].map(|signers| {
+            let record = record(1, signers, PAYLOAD);
+            noting(record, 0b11_0101, OTHER)
+        });
+        let received = receive_at(config, held, bundle(9, PAYLOAD));
+        assert_eq!(received, (100, joined, UNSENT));
     }
 
     #[test]
@@ -651,8 +854,9 @@ mod tests {
 
     #[test]
     fn a_preview_answers_for_each_kind_of_record() {
-        let (empty, malformed) = ([0; 32], record(3, 3, PAYLOAD));
+        let (empty, malformed) = (EMPTY, record(3, 3, PAYLOAD));
         let (held, delivered) = (record(1, 3, PAYLOAD), record(2, 7, PAYLOAD));
+        let noted = noting(held, 9, OTHER);
         let at_odds = Err(Refusal::OwnSignatureNotHeld);
         let too_few = Err(Refusal::OtherPayloadWithoutQuorum);
         // The record, the bundle's signers and payload, the answer, and the signers of the bundle put out.
@@ -664,13 +868,16 @@ mod tests {
             (held, 9, PAYLOAD, Ok(Receipt::Delivered(3)), Some(11)),
             (held, 13, OTHER, Ok(Receipt::Delivered(3)), Some(13)),
             (held, 15, OTHER, at_odds, None),
-            (held, 5, OTHER, too_few, None),
+            (held, 5, OTHER, Ok(Receipt::Noted(2)), None),
+            (noted, 5, OTHER, Ok(Receipt::Noted(3)), None),
+            (noted, 13, OTHER, Ok(Receipt::Delivered(3)), Some(13)),
+            (noted, 5, THIRD, too_few, None),
             (delivered, 7, PAYLOAD, Err(Refusal::AlreadyDelivered), None),
             (malformed, 1, PAYLOAD, Err(Refusal::RecordMalformed), None),
         ];
         for (before, signers, payload, answer, sent) in rows {
-            let (mut records, mut out) = ([0; 2048], UNSENT);
-            records[..32].copy_from_slice(&before);
+            let (mut records, mut out) = ([0; LENGTH], UNSENT);
+            records[..RECORD_LENGTH].copy_from_slice(&before);
             let bundle_given = bundle(signers, payload);
             let previewed = preview(&config(4, 1, 0, 1), &bundle_given, &records, &mut out);
             let sent = sent.map_or(UNSENT, |signers| bundle(signers, payload));
@@ -680,7 +887,7 @@ mod tests {
 
     #[test]
     fn a_preview_takes_nothing() {
-        let (config, records, bundle) = (config(4, 1, 0, 1), [0; 2048], bundle(1, PAYLOAD));
+        let (config, records, bundle) = (config(4, 1, 0, 1), [0; LENGTH], bundle(1, PAYLOAD));
         // Taken the first time, the bundle would be kept the second time.
         for _ in 0..2 {
             let previewed = preview(&config, &bundle, &records, &mut [0; 32]);
@@ -697,7 +904,7 @@ mod tests {
 
     /// The setpoint at node 1 of 4, 1, 0, from such records, each delivered by all: sender, number, payload.
     fn setpoint_from(delivered: &[(usize, usize, [u8; 16])]) -> Result<i16, Refusal> {
-        let mut records = [[0; 32]; 64];
+        let mut records = [EMPTY; 64];
         for &(sender, seq, payload) in delivered {
             records[16 * sender + seq] = record(2, 15, payload);
         }
@@ -747,21 +954,36 @@ mod tests {
     }
 
     #[test]
+    fn a_noted_setpoint_does_not_count() {
+        let [low, mid, high] = [-5, 0, 5].map(setpoint_payload);
+        let mut records = [EMPTY; 64];
+        records[0] = noting(record(2, 15, low), 1, high);
+        records[16] = noting(record(2, 15, OTHER), 2, high);
+        records[32] = record(2, 15, mid);
+        records[33] = noting(record(1, 6, OTHER), 4, high);
+        let outcome =
+            |records: &[RecordBytes]| setpoint(&config(4, 1, 0, 1), records.as_flattened());
+        assert_eq!(outcome(&records), Err(Refusal::TooFewSetpoints));
+        records[48] = record(2, 15, high);
+        assert_eq!(outcome(&records), Ok(0));
+    }
+
+    #[test]
     fn setpoints_are_refused_in_order() {
         let (good, bad) = (config(4, 1, 0, 1), config(5, 1, 1, 1));
-        let mut records = [[0; 32]; 64];
+        let mut records = [EMPTY; 64];
         assert_eq!(setpoint_code(&good, records.as_flattened()), 27);
         records[63] = record(1, 1, setpoint_payload(0));
         assert_eq!(setpoint_code(&good, records.as_flattened()), 21);
         assert_eq!(setpoint_code(&good, &records.as_flattened()[1..]), 20);
         assert_eq!(setpoint_code(&bad, &records.as_flattened()[1..]), 1);
-        assert_eq!(setpoint_code(&config(1, 0, 0, 0), &[0; 512]), 27);
+        assert_eq!(setpoint_code(&config(1, 0, 0, 0), &[0; 1024]), 27);
     }
 
     #[test]
     fn the_code_of_a_setpoint_is_above_every_refusal() {
         for (value, code) in [(0, 65536), (-5, 0x1fffb), (2100, 67636), (-1, 131_071)] {
-            let mut records = [[0; 32]; 16];
+            let mut records = [EMPTY; 16];
             records[7] = record(2, 1, setpoint_payload(value));
             assert_eq!(
                 setpoint_code(&config(1, 0, 0, 0), records.as_flattened()),
@@ -776,21 +998,21 @@ mod tests {
         let strict = Config { q: 4, ..good };
         // Defects add up from row to row: the code is the first of them.
         let rows = [
-            (good, 32, 16, 32, 2047, 20, 20),
-            (good, 32, 16, 31, 2047, 10, 10),
-            (good, 31, 15, 31, 2047, 2, 9),
-            (strict, 31, 15, 31, 2047, 1, 1),
-            (bad, 31, 15, 31, 2047, 1, 1),
+            (good, 32, 16, 32, LENGTH - 1, 20, 20),
+            (good, 32, 16, 31, LENGTH - 1, 10, 10),
+            (good, 31, 15, 31, LENGTH - 1, 2, 9),
+            (strict, 31, 15, 31, LENGTH - 1, 1, 1),
+            (bad, 31, 15, 31, LENGTH - 1, 1, 1),
         ];
         for (config, bundle_length, payload_length, out_length, length, received, sent) in rows {
-            let (mut records, mut out) = ([0; 2048], UNSENT);
+            let (mut records, mut out) = ([0; LENGTH], UNSENT);
             let (buffer, out_buffer) = (&mut records[..length], &mut out[..out_length]);
             let bundle = &bundle(1, PAYLOAD)[..bundle_length];
             assert_eq!(receive_code(&config, bundle, buffer, out_buffer), received);
             assert_eq!(preview_code(&config, bundle, buffer, out_buffer), received);
             let payload = &PAYLOAD[..payload_length];
             assert_eq!(broadcast_code(&config, payload, buffer, out_buffer), sent);
-            assert_eq!((records, out), ([0; 2048], UNSENT));
+            assert_eq!((records, out), ([0; LENGTH], UNSENT));
         }
     }
 
@@ -799,11 +1021,12 @@ mod tests {
         let (good, bad) = (config(4, 1, 0, 1), config(5, 1, 1, 1));
         let strict = Config { q: 4, ..good };
         let rows = [
-            (good, 2048, 0, 0),
-            (good, 2047, 20, 0xa5),
+            (good, LENGTH, 0, 0),
+            (good, LENGTH - 1, 20, 0xa5),
+            (good, LENGTH / 2, 20, 0xa5),
             (good, 0, 20, 0xa5),
-            (strict, 2048, 1, 0xa5),
-            (bad, 2560, 1, 0xa5),
+            (strict, LENGTH, 1, 0xa5),
+            (bad, 5120, 1, 0xa5),
             (bad, 0, 1, 0xa5),
         ];
         for (config, length, code, left) in rows {
@@ -827,7 +1050,7 @@ mod tests {
         let mut bytes = bundle(1, PAYLOAD);
         for (at, value, number) in defects {
             bytes[at] = value;
-            assert_refused(number, [0; 32], bytes);
+            assert_refused(number, EMPTY, bytes);
         }
     }
 
@@ -846,23 +1069,73 @@ mod tests {
     }
 
     #[test]
+    fn malformed_notes_are_refused_in_every_state() {
+        let (held, delivered) = (record(1, 3, PAYLOAD), record(2, 7, PAYLOAD));
+        for record in [held, delivered] {
+            // Without the sender's bit, without any, with that of no node, with the first payload.
+            for (signers, payload) in [(2, OTHER), (0, THIRD), (17, OTHER), (1, PAYLOAD)] {
+                assert_refused(21, noting(record, signers, payload), bundle(1, PAYLOAD));
+            }
+        }
+        for (signers, payload) in [(1, PAYLOAD), (1, OTHER), (0, PAYLOAD), (3, THIRD)] {
+            assert_refused(21, noting(EMPTY, signers, payload), bundle(1, PAYLOAD));
+        }
+        let noted = noting(held, 1, OTHER);
+        for before in [EMPTY, held, delivered, noted] {
+            for at in 40..48 {
+                let mut reserved = before;
+                reserved[at] = 1;
+                assert_refused(21, reserved, bundle(1, PAYLOAD));
+            }
+        }
+    }
+
+    #[test]
+    fn any_signers_may_be_noted_with_the_sender_among_them() {
+        for signers in (1..16).step_by(2) {
+            for payload in [OTHER, THIRD] {
+                let held = noting(record(1, 3, PAYLOAD), signers, payload);
+                assert_eq!(receive_on(held, bundle(1, PAYLOAD)).0, 100);
+                let delivered = noting(record(2, 7, PAYLOAD), signers, payload);
+                assert_refused(22, delivered, bundle(1, PAYLOAD));
+                // In our own slot too.
+                let (ours, own) = (
+                    noting(record(1, 1, PAYLOAD), signers, payload),
+                    config(4, 1, 0, 0),
+                );
+                assert_eq!(receive_at(own, ours, bundle(1, PAYLOAD)).0, 100);
+                let mut records = [EMPTY; 64];
+                records[0] = ours;
+                let records = records.as_flattened_mut();
+                assert_eq!(broadcast(&own, &PAYLOAD, records, &mut [0; 32]), Ok(1));
+            }
+        }
+    }
+
+    #[test]
     fn bundles_at_odds_with_our_record_are_refused() {
-        assert_refused(23, [0; 32], bundle(3, OTHER));
+        assert_refused(23, EMPTY, bundle(3, OTHER));
         assert_refused(23, record(1, 3, PAYLOAD), bundle(3, OTHER));
-        assert_refused(24, record(1, 3, PAYLOAD), bundle(5, OTHER));
     }
 
     #[test]
     fn broadcast_looks_no_further_than_the_first_empty_record() {
-        let (config, mut records, mut out) = (config(4, 1, 0, 2), [0; 2048], UNSENT);
+        let (config, mut records, mut out) = (config(4, 1, 0, 2), [0; LENGTH], UNSENT);
         let last = config.place(2, 15);
         records[last] = 3;
         for seq in 0..15 {
             let code = broadcast_code(&config, &OTHER, &mut records, &mut out);
             assert_eq!((code, out[5]), (200 + seq, seq as u8));
         }
-        for (number, record) in [(21, record(0, 0, PAYLOAD)), (25, record(2, 13, PAYLOAD))] {
-            records[last..last + 32].copy_from_slice(&record);
+        let noted_only = noting(EMPTY, 4, PAYLOAD);
+        let delivered = record(2, 13, PAYLOAD);
+        for (number, record) in [
+            (21, record(0, 0, PAYLOAD)),
+            (21, noted_only),
+            (25, delivered),
+            (25, noting(delivered, 4, OTHER)),
+        ] {
+            records[last..last + RECORD_LENGTH].copy_from_slice(&record);
             let (before, mut out) = (records, UNSENT);
             let code = broadcast_code(&config, &PAYLOAD, &mut records, &mut out);
             assert_eq!((code, records, out), (number, before, UNSENT));

@@ -22,7 +22,7 @@ pub struct System {
 
 impl System {
     pub fn new(config: Config) -> System {
-        let records = vec![0; 512 * usize::from(config.n)];
+        let records = vec![0; config.records_length()];
         System {
             config,
             records: vec![records; config.n.into()],

@@ -1,7 +1,7 @@
 //! The exported functions beside the reference: code, records and outgoing bytes of each call, on calls made from a seed. A preview is
 //! compared besides with taking on a copy of the records, by each of the two, and the records have to stay. One setpoint from many is about
 //! whole buffers of records, and is compared on such, apart from the other calls. Announcing is compared once more on buffers in which its
-//! search for our next number ends at each possible place.
+//! search for our next number ends at each possible place, and taking and its preview once more on every record of small tables.
 //!
 //! `MBRB_CALLS` sets how many calls, `MBRB_SEED` another seed, both decimal. With fewer than three hundred thousand calls some code,
 //! record, quorum or n may be too rare, and the test fails for that.
@@ -14,8 +14,12 @@ mod comparison;
 mod damage;
 #[path = "compare/node.rs"]
 mod node;
+#[path = "compare/notes.rs"]
+mod notes;
 #[path = "compare/quorums.rs"]
 mod quorums;
+#[path = "compare/receivings/mod.rs"]
+mod receivings;
 #[path = "compare/records.rs"]
 mod records;
 #[path = "compare/searches/mod.rs"]
@@ -27,10 +31,10 @@ mod system;
 #[path = "compare/tally.rs"]
 mod tally;
 
-use arena::{bundle, Arena, CONFIG, CONSTANT};
-use comparison::{call_both, Call, Difference, Implementation, Kind, HOST, REFERENCE};
+use arena::{bundle, Arena, CONFIG, CONSTANT, LENGTH};
+use comparison::{call_both, Call, Case, Difference, Implementation, Kind, HOST, REFERENCE};
 use mbrb::random::Random;
-use mbrb::reference::least_quorum;
+use mbrb::reference::{least_quorum, RECORD_LENGTH};
 use mbrb::{host, reference, setting, Config};
 use quorums::{allowed, Choice, CHOICES};
 use system::System;
@@ -39,46 +43,71 @@ use tally::Tally;
 const CALLS: u64 = 1_000_000;
 const SEED: u64 = 1;
 
+/// A call on which both implementations agree, at the node of this place in its system.
+struct Called {
+    at: usize,
+    case: Case,
+    code: u32,
+    out: [u8; 64],
+}
+
 /// Gives both implementations the calls of a seed, up to the first on which they differ.
-fn compare(seed: u64, calls: u64, pair: &[Implementation; 2]) -> Result<Tally, Box<Difference>> {
+fn each_call(
+    seed: u64,
+    calls: u64,
+    pair: &[Implementation; 2],
+    mut look: impl FnMut(&Called, &mut System),
+) -> Result<(), Box<Difference>> {
     let mut random = Random::new(seed);
-    let mut tally = Tally::default();
-    while tally.calls < calls {
+    let mut made = 0;
+    while made < calls {
         let length = 1 + random.below(60) as u64;
         let mut system = System::new(&mut random);
-        for _ in 0..length.min(calls - tally.calls) {
-            step(&mut random, &mut system, &mut tally, pair).map_err(|mut difference| {
-                difference.seed = seed;
-                difference.call = tally.calls + 1;
+        for _ in 0..length.min(calls - made) {
+            made += 1;
+            let called = step(&mut random, &mut system, pair).map_err(|mut difference| {
+                (difference.seed, difference.call) = (seed, made);
                 difference
             })?;
+            look(&called, &mut system);
         }
     }
-    Ok(tally)
+    Ok(())
 }
 
 /// Makes one call at a node of the system.
 fn step(
     random: &mut Random,
     system: &mut System,
-    tally: &mut Tally,
     pair: &[Implementation; 2],
-) -> Result<(), Box<Difference>> {
+) -> Result<Called, Box<Difference>> {
     system.disturb(random);
     let (at, case) = system.next_call(random);
-    let node = &mut system.nodes[at];
-    let (code, out) = call_both(pair, &case, &mut node.records)?;
-    let clause = node.clause(&case);
-    tally.count(&case, &node.records.before, clause, code);
-    if case.kind == Kind::Open && code == 0 {
-        node.forget();
-    }
-    tally.lives += u64::from(node.completes_life(&case, code));
+    let (code, out) = call_both(pair, &case, &mut system.nodes[at].records)?;
     // What a preview puts out stays where it is.
-    if code > 100 && case.kind != Kind::Preview {
+    if matches!(code, 101 | 102 | 200..) && case.kind != Kind::Preview {
         system.keep_sent(random, &out);
     }
-    Ok(())
+    Ok(Called {
+        at,
+        case,
+        code,
+        out,
+    })
+}
+
+fn compare(seed: u64, calls: u64, pair: &[Implementation; 2]) -> Result<Tally, Box<Difference>> {
+    let mut tally = Tally::default();
+    each_call(seed, calls, pair, |called, system| {
+        let Called { at, case, code, .. } = called;
+        let node = &mut system.nodes[*at];
+        tally.count(case, &node.records.before, node.clause(case), *code);
+        if case.kind == Kind::Open && *code == 0 {
+            node.forget();
+        }
+        tally.lives += u64::from(node.completes_life(case, *code));
+    })?;
+    Ok(tally)
 }
 
 #[test]
@@ -105,7 +134,8 @@ fn codes_in_arenas(shift: usize, kind: Kind, lengths: [usize; 3], input: &[u8]) 
 #[test]
 fn buffers_may_start_anywhere_and_nothing_around_them_changes() {
     for shift in 0..32 {
-        let at = |kind, input: &[u8]| codes_in_arenas(shift, kind, [input.len(), 2048, 32], input);
+        let at =
+            |kind, input: &[u8]| codes_in_arenas(shift, kind, [input.len(), LENGTH, 32], input);
         assert_eq!(at(Kind::Open, &[]), 0);
         assert_eq!(at(Kind::Broadcast, &[b'a'; 16]), 200);
         assert_eq!(at(Kind::Receive, &bundle(1)), 101);
@@ -122,15 +152,15 @@ fn a_length_counts_in_full() {
     for more in [0x100, 0x1_0000, 0x100_0000] {
         let open = |lengths| codes_in_arenas(0, Kind::Open, lengths, &[]);
         let broadcast = |lengths| codes_in_arenas(0, Kind::Broadcast, lengths, &[b'a'; 16]);
-        assert_eq!(open([0, 2048 + more, 32]), 20);
-        assert_eq!(broadcast([16 + more, 2048, 32]), 9);
-        assert_eq!(broadcast([16, 2048, 32 + more]), 10);
-        assert_eq!(broadcast([16, 2048 + more, 32]), 20);
+        assert_eq!(open([0, LENGTH + more, 32]), 20);
+        assert_eq!(broadcast([16 + more, LENGTH, 32]), 9);
+        assert_eq!(broadcast([16, LENGTH, 32 + more]), 10);
+        assert_eq!(broadcast([16, LENGTH + more, 32]), 20);
         for kind in [Kind::Receive, Kind::Preview] {
             let take = |lengths| codes_in_arenas(0, kind, lengths, &bundle(1));
-            assert_eq!(take([32 + more, 2048, 32]), 2);
-            assert_eq!(take([32, 2048, 32 + more]), 10);
-            assert_eq!(take([32, 2048 + more, 32]), 20);
+            assert_eq!(take([32 + more, LENGTH, 32]), 2);
+            assert_eq!(take([32, LENGTH, 32 + more]), 10);
+            assert_eq!(take([32, LENGTH + more, 32]), 20);
         }
     }
 }
@@ -144,6 +174,12 @@ fn a_preview_needs_no_records_that_can_be_written() {
     };
     assert_eq!([code(0, 1), code(0, 1 | 4)], [100, 102]);
     assert_eq!([code(1, 1), code(1, 1 | 4)], [101, 102]);
+    let other = |signers| {
+        let mut bundle = bundle(signers);
+        bundle[31] = b'b';
+        host::preview(&CONFIG, &bundle, CONSTANT.as_flattened(), &mut [0; 32])
+    };
+    assert_eq!([other(1), other(1 | 4 | 8)], [103, 102]);
 }
 
 /// What the comparison says of two implementations, from one seed after the other. Repeating the calls before shows no difference, so
@@ -189,7 +225,8 @@ fn a_wrong_record_byte_is_found() {
         broadcast: |config, payload, records, out| {
             let code = reference::broadcast_code(config, payload, records, out);
             if code == 215 {
-                records[512 * usize::from(config.own) + 511] ^= 1;
+                let last = config.place(config.own, 15) + RECORD_LENGTH - 1;
+                records[last] ^= 1;
             }
             code
         },
@@ -365,6 +402,37 @@ fn another_payload_for_the_least_quorum_is_found() {
     });
     assert_eq!(difference.codes, [24, 102]);
     assert!(difference.records_differ() && difference.outs_differ());
+}
+
+#[test]
+fn a_second_payload_for_the_least_quorum_is_found() {
+    let difference = found(Implementation {
+        receive: |config, bundle, records, out| {
+            let foreseen = reference::preview_code(config, bundle, records, &mut [0; 32]);
+            match foreseen {
+                103 => reference::receive_code(&with_least_quorum(config), bundle, records, out),
+                _ => reference::receive_code(config, bundle, records, out),
+            }
+        },
+        ..REFERENCE
+    });
+    assert_eq!(difference.codes, [103, 102]);
+    assert!(difference.records_differ() && difference.outs_differ());
+}
+
+#[test]
+fn a_preview_that_notes_is_found() {
+    let differences = found_previews(|config, bundle, records, out| {
+        let code = reference::preview_code(config, bundle, records, out);
+        match code {
+            103 => reference::receive_code(config, bundle, records, out),
+            _ => code,
+        }
+    });
+    for difference in differences {
+        assert_eq!(difference.codes, [103, 103]);
+        assert!(difference.records_differ() && !difference.outs_differ());
+    }
 }
 
 /// What it says of a wrong preview: beside the reference's, and where both have it, so that only taking is right.

@@ -14,7 +14,7 @@ use Rattle.bundle.specs.Bundle.{payloadIn, headerIn, payloadPart, slotOf, slotI
 use Rattle.bundle.proofs.Accepted.{unsigned-says}
 use Rattle.protocol.specs.Update.{Record, Empty, Held, Delivered, sends, Update, announcedBy}
 use Rattle.protocol.specs.Algorithm as algorithm
-use Rattle.protocol.proofs.WellFormed.{WellFormed, well-formed-bundled, announced-well-formed}
+use Rattle.protocol.proofs.WellFormed.{WellFormed, announced-well-formed}
 use Rattle.protocol.proofs.Algorithm as values
 use Rattle.record.specs.Record.{encoding, decoded}
 use Rattle.record.proofs.Encoding.{decoded-encoding, decoded-well-formed, encoding-length}
@@ -38,7 +38,7 @@ empty-zeros = refl
 record-stored : (config : Config) (records : List ℕ) (slot : Slot) (r : Record) → good config ≡ true → length records ≡ recordsSize config → inRange config slot ≡ true
     → WellFormed (config .n) (slot .sender) (quorum config) (config .own) r → recordOf config slot (stored config slot (encoding r) records) ≡ r
 record-stored config records slot r g l range fine =
-    let whole = encoding-length r (λ some. well-formed-bundled (config .n) (slot .sender) (quorum config) (config .own) r some fine .whole) in
+    let whole = encoding-length (config .n) (slot .sender) (quorum config) (config .own) r fine in
     ap decoded (stored-there config g records l slot range (encoding r) whole) ∙ decoded-encoding (config .n) (slot .sender) (quorum config) (config .own) (good-says config g .most) r fine
 
 pub stricter-quorum-waits : StricterQuorumWaits
@@ -74,8 +74,8 @@ unsigned-follows config bundle records out σ e =
 -- a well-formed record that is held has the node's own signature
 has-own : (config : Config) (sender : ℕ) (r : Record) → WellFormed (config .n) sender (quorum config) (config .own) r → algorithm.HasOwn (config .own) r
 has-own config sender Empty fine = tt
-has-own config sender (Held signers payload) fine = fine .1
-has-own config sender (Delivered signers payload) fine = tt
+has-own config sender (Held signers payload note) fine = fine .1
+has-own config sender (Delivered signers payload note) fine = tt
 
 pub receive-follows : ReceiveFollows
 receive-follows config bundle records out h e o l formed =

@@ -10,6 +10,7 @@ pub mod SentReadsBack
 pub mod Settling
 pub mod Algorithm
 pub mod Differences
+pub mod Notes
 pub mod Locality
 pub mod Unique
 pub mod Preserved

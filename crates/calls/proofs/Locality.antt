@@ -13,10 +13,11 @@ use Rattle.refusal.specs.Outcome.{Outcome, refused, done, Reason, _if_, unless,
 use Rattle.refusal.proofs.Reasons.{refused-not-done, after-same}
 use Rattle.config.specs.declared.Config.{Config}
 use Rattle.config.specs.Config.{good, quorum, place, slots, recordSize, recordsSize, inRange}
+use Rattle.config.proofs.Laws.{good-says}
 use Rattle.bundle.specs.declared.Header.{Header}
 use Rattle.bundle.specs.Bundle.{read, payloadPart, bundleSize, slotOf, slotIn}
 use Rattle.protocol.specs.Update.{Update, announcedBy, update}
-use Rattle.protocol.proofs.WellFormed.{update-payload}
+use Rattle.protocol.proofs.WellFormed.{announced-well-formed}
 use Rattle.record.specs.Record.{encoding, decoded, wellFormed, payloadAt}
 use Rattle.record.proofs.Encoding.{encoding-length}
 use Rattle.payload.specs.Payload.{payloadSize}
@@ -32,6 +33,7 @@ use Rattle.calls.proofs.Records.{stored-length, stored-outside}
 use Rattle.calls.proofs.Refusals.{broadcast-effect, receive-left, receive-no-effect, receive-unread}
 use Rattle.calls.proofs.LowestFree.{broadcast-done, search-agrees, search-own}
 use Rattle.calls.proofs.ReceiveFacts.{read-says, receive-done}
+use Rattle.calls.proofs.Settling.{result-well-formed}
 
 -- ---- what a call changes
 
@@ -52,8 +54,11 @@ pub broadcast-changes : BroadcastChanges
 unfolding announcedBy
 broadcast-changes config payload records out seq e =
     let ok = broadcast-done config payload records out seq e in
+    let g = good-says config (ok .configured) in
     one-stored config records (encoding (announcedBy (config .own) payload)) (broadcastRecords config payload records out) (ownSlot config seq) (ok .configured) (ok .sized)
-    (ok .range) (encoding-length (announcedBy (config .own) payload) (λ _. ok .whole))
+    (ok .range)
+    (encoding-length (config .n) (config .own) (quorum config) (config .own) (announcedBy (config .own) payload)
+    (announced-well-formed (config .n) (quorum config) (config .own) payload (g .known) (g .most) (ok .whole)))
     (sym (broadcast-effect config payload records out seq e .0))
 
 pub receive-changes : ReceiveChanges
@@ -67,9 +72,9 @@ receive-changes config bundle records out = go (receive config bundle records ou
     go (done result) e (done h) f =
         let ok = read-says config bundle h f in
         let (room, long, taken, formed) = receive-done config bundle records out h f result e in
-        let (some, same) = update-payload (config .own) (quorum config) (h .signers) (payloadPart config bundle) (decoded (recordAt config (slotOf h) records)) result taken in
+        let (some, fine) = result-well-formed config bundle records out h f long formed (e ∙ sym taken) result e in
         one-stored config records (encoding (result .newRecord)) (receiveRecords config bundle records out) (slotIn bundle) (ok .configured) long
-        (rw (ok .slot-named) (ok .range)) (encoding-length (result .newRecord) (λ _. ap length same ∙ ok .bundled .whole))
+        (rw (ok .slot-named) (ok .range)) (encoding-length (config .n) (h .sender) (quorum config) (config .own) (result .newRecord) fine)
         (receive-left config bundle records out result e .0)
 
 -- ---- what an answer depends on

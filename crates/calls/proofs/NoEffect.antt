@@ -1,7 +1,7 @@
 -- A refusal changes nothing, and 7 never comes with 64 nodes: the claims of specs/Refusals.antt, from the definitions of what each call leaves.
 -- Assumes nothing.
 use mathlib.Core.Path.{_≡_, refl, sym, ap, _∙_}
-use mathlib.Core.Bool.{true, false, true≢false}
+use mathlib.Core.Bool.{true, true≢false}
 use mathlib.Core.List.{List}
 use Prim.Native.Nat.{ℕ}
 use Rattle.refusal.specs.Outcome.{Outcome, refused, done, checked, _and-then_}
@@ -54,6 +54,7 @@ refusal-counts-nothing = (announced, received)
     received (receipt.Kept count) number e = absurd (refused-not-done number _ (sym e))
     received (receipt.Signed count) number e = absurd (refused-not-done number _ (sym e))
     received (receipt.Delivered count) number e = absurd (refused-not-done number _ (sym e))
+    received (receipt.Noted count) number e = absurd (refused-not-done number _ (sym e))
     received (receipt.Refused reason) number e = refl
 
 -- after reading no reason of receiving has the number 7

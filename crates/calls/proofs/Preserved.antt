@@ -1,13 +1,12 @@
 -- What the calls keep from one to the next: the claims of specs/Preserved.antt. A call stores one record, which is well-formed, and leaves the others.
 -- Assumes nothing.
 use mathlib.Core.Path.{_≡_, refl, sym, ap, _∙_, subst}
-use mathlib.Core.Bool.{Bool, true, false, cond, true≢false}
+use mathlib.Core.Bool.{Bool, true, false, true≢false}
 use mathlib.Core.List.{List}
 use Prim.Native.Nat.{ℕ, _+_}
-use lib.Dec.{eqb, leb}
+use lib.Dec.{eqb}
 use lib.ListN.{length, length-replicate}
 use borrow.Author.Tests.{eqb-true, eqb-false}
-use Rattle.signers.specs.Signers.{size}
 use Rattle.refusal.specs.Outcome.{Outcome, refused, done, unless}
 use Rattle.refusal.proofs.Reasons.{refused-not-done}
 use Rattle.config.specs.declared.Config.{Config}
@@ -15,9 +14,9 @@ use Rattle.config.specs.Config.{good, quorum, place, recordSize, recordsSize, i
 use Rattle.config.proofs.Laws.{good-says, range-says}
 use Rattle.bundle.specs.declared.Header.{Header}
 use Rattle.bundle.specs.Bundle.{read, slotOf}
-use Rattle.protocol.specs.Update.{Record, Empty, Held, Delivered, payloadOf, isEmpty, isDelivered, delivers, Update, announcedBy, updateReasons, joinedSigners, updateResult, update}
-use Rattle.protocol.specs.Update as answers
-use Rattle.protocol.proofs.WellFormed.{WellFormed, well-formed-bundled, announced-well-formed, update-done, update-payload}
+use Rattle.protocol.specs.Update.{Record, Empty, Held, Delivered, payloadOf, isEmpty, isDelivered, Update, announcedBy, updateReasons, update}
+use Rattle.protocol.proofs.WellFormed.{WellFormed, announced-well-formed}
+use Rattle.protocol.proofs.UpdateCases.{update-delivers, update-payload, delivers-sends}
 use Rattle.record.specs.Record.{encoding, decoded, wellFormed, payloadField, payloadAt}
 use Rattle.record.proofs.Encoding.{decoded-encoding, encoding-length, empty-encoding, encoding-well-formed, encoding-fields}
 use Rattle.config.specs.declared.Slot.{Slot}
@@ -35,9 +34,9 @@ use Rattle.calls.proofs.Settling.{result-well-formed}
 use Rattle.calls.proofs.Algorithm.{broadcast-follows}
 use Rattle.calls.proofs.Locality.{shown-part, delivered-depends}
 
--- the bytes of a well-formed record are 32
+-- the bytes of a well-formed record are 64
 well-formed-length : (config : Config) (sender : ℕ) (r : Record) → WellFormed (config .n) sender (quorum config) (config .own) r → length (encoding r) ≡ recordSize
-well-formed-length config sender r fine = encoding-length r (λ some. well-formed-bundled (config .n) sender (quorum config) (config .own) r some fine .whole)
+well-formed-length config sender r fine = encoding-length (config .n) sender (quorum config) (config .own) r fine
 
 -- ---- one record stored
 
@@ -113,8 +112,8 @@ module _ (config : Config) (payload records out : List ℕ) where
 late : (own q signers : ℕ) (payload : List ℕ) (r : Record) → isDelivered r ≡ true → update own q signers payload r ≡ refused 22
 unfolding update updateReasons unless
 late own q signers payload Empty e = absurd (true≢false (sym e))
-late own q signers payload (Held known first) e = absurd (true≢false (sym e))
-late own q signers payload (Delivered known first) e = refl
+late own q signers payload (Held known first note) e = absurd (true≢false (sym e))
+late own q signers payload (Delivered known first note) e = refl
 
 -- so one that is taken was not
 taken-fresh : (own q signers : ℕ) (payload : List ℕ) (r : Record) (result : Update) → update own q signers payload r ≡ done result → isDelivered r ≡ false
@@ -174,30 +173,11 @@ shown-stays config records slot start d = (
   λ bundle out. left-shown config records _ (receive-left-one config bundle records out) slot start d,
 )
 
--- an update that delivers leaves a delivered record
-delivers-record : (own q signers : ℕ) (payload : List ℕ) (r : Record) (result : Update) → update own q signers payload r ≡ done result
-    → delivers (result .answer) ≡ true → isDelivered (result .newRecord) ≡ true
-unfolding updateResult
-delivers-record own q signers payload r result e d =
-    subst (λ (x : Update). delivers (x .answer) ≡ true → isDelivered (x .newRecord) ≡ true) (update-done own q signers payload r result e .1)
-    (go (leb q (size (joinedSigners own q signers payload r))) (isEmpty r)) d
-  where
-    result-of : Bool → Bool → Update
-    result-of full fresh =
-        cond full
-        (record { answer = answers.delivered; newRecord = Delivered (joinedSigners own q signers payload r) payload })
-        (record { answer = cond fresh answers.signed answers.kept; newRecord = Held (joinedSigners own q signers payload r) payload })
-
-    go : (full fresh : Bool) → delivers (result-of full fresh .answer) ≡ true → isDelivered (result-of full fresh .newRecord) ≡ true
-    go true fresh e = refl
-    go false true e = absurd (true≢false (sym e))
-    go false false e = absurd (true≢false (sym e))
-
 -- a delivered record is not empty
 delivered-some : (r : Record) → isDelivered r ≡ true → isEmpty r ≡ false
 delivered-some Empty e = absurd (true≢false (sym e))
-delivered-some (Held signers payload) e = refl
-delivered-some (Delivered signers payload) e = refl
+delivered-some (Held signers payload note) e = refl
+delivered-some (Delivered signers payload note) e = refl
 
 -- a well-formed record that is delivered is shown: its place, and its payload
 pub record-shown : (config : Config) (slot : Slot) (records : List ℕ) (r : Record) → good config ≡ true → inRange config slot ≡ true
@@ -224,5 +204,5 @@ delivered-is-shown config bundle records out h result e f d =
     ∙ stored-there config (ok .configured) records long (slotOf h) (ok .range) (encoding (result .newRecord)) (well-formed-length config (h .sender) (result .newRecord) fine) in
     let (shown, same) =
     record-shown config (slotOf h) (receiveRecords config bundle records out) (result .newRecord) (ok .configured) (ok .range)
-    (receive-length config bundle records out ∙ long) there fine (delivers-record _ _ _ _ _ result stepped d) in
-    (shown, same ∙ update-payload _ _ _ _ _ result stepped .1)
+    (receive-length config bundle records out ∙ long) there fine (update-delivers _ _ _ _ _ result stepped d) in
+    (shown, same ∙ update-payload _ _ _ _ _ result stepped (delivers-sends (result .answer) d))

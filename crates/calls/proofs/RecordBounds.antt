@@ -18,7 +18,7 @@ use Rattle.record.specs.Record.{loaded}
 use Rattle.config.specs.declared.Slot.{Slot}
 use Rattle.calls.specs.Records.{ownSlot, recordAt}
 
--- a part of 32 bytes is loaded as it is
+-- a part of a record's size is loaded as it is
 pub loaded-part : (xs : List ℕ) (i : ℕ) → i + recordSize ≤ length xs → loaded (take (i + recordSize - i) (drop i xs)) ≡ part i recordSize xs
 unfolding loaded
 loaded-part xs i h =

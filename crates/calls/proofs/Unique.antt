@@ -7,7 +7,7 @@ use lib.Count.{ones}
 use Rattle.signers.proofs.Members.{nobody, size-insert}
 use Rattle.refusal.specs.Outcome.{Outcome, refused, done}
 use Rattle.refusal.proofs.Unique.{reasonOf, found}
-use Rattle.protocol.specs.Update.{Answer, announced, kept, signed, delivered, announcedBy}
+use Rattle.protocol.specs.Update.{Answer, announced, kept, signed, delivered, noted, announcedBy}
 use Rattle.calls.specs.Broadcast.{announcementOf, AnnouncedCounts}
 use Rattle.calls.specs.Receive.{receiptOf}
 use Rattle.calls.specs.declared.Announcement as Announcement
@@ -23,6 +23,7 @@ receipt-of announced count = Receipt.the-variants.Kept count
 receipt-of kept count = Receipt.the-variants.Kept count
 receipt-of signed count = Receipt.the-variants.Signed count
 receipt-of delivered count = Receipt.the-variants.Delivered count
+receipt-of noted count = Receipt.the-variants.Noted count
 
 unfoldable pub receipt : Outcome (Answer × ℕ) → Receipt.Receipt
 receipt (refused number) = Receipt.the-variants.Refused (reasonOf number)
@@ -39,6 +40,7 @@ unfolding receipt receipt-of
 receipt-back (Receipt.the-variants.Kept count) = refl
 receipt-back (Receipt.the-variants.Signed count) = refl
 receipt-back (Receipt.the-variants.Delivered count) = refl
+receipt-back (Receipt.the-variants.Noted count) = refl
 receipt-back (Receipt.the-variants.Refused reason) = ap Receipt.the-variants.Refused (found reason)
 
 pub announcement-one : (a b : Announcement.Announcement) → announcementOf a ≡ announcementOf b → a ≡ b

@@ -14,8 +14,9 @@ use Rattle.config.specs.declared.Slot.{Slot}
 use Rattle.config.specs.Config.{recordSize, place}
 use Rattle.bundle.specs.Bundle.{bundleOf, headerOf, slotIn}
 use Rattle.bundle.specs.Inner.{encodedLike}
-use Rattle.protocol.specs.Update.{Answer, sends}
-use Rattle.record.specs.Record.{signersField, payloadField, receivedOf}
+use Rattle.protocol.specs.Update.{Answer, announced, kept, signed, delivered, noted, sends}
+use Rattle.note.specs.Note as note
+use Rattle.record.specs.Record.{signersField, payloadField, noteField, receivedOf}
 use Rattle.calls.specs.declared.Decision.{Decision}
 use Rattle.calls.specs.declared.Decision.the-variants.{Made, Refused}
 use Rattle.calls.specs.Records.{replaced}
@@ -34,9 +35,17 @@ abbrev pub Placed : Config → (bundle records : List ℕ) → Decision → Type
 Placed config bundle records (Made start received) = (start ≡ place config (slotIn bundle)) × (start + recordSize ≤ length records)
 Placed config bundle records (Refused reason) = Unit
 
+-- the signers that are counted with an answer, by the bytes of the record
+abbrev pub countedField : Answer → (bytes : List ℕ) → ℕ
+countedField announced bytes = signersField bytes
+countedField kept bytes = signersField bytes
+countedField signed bytes = signersField bytes
+countedField delivered bytes = signersField bytes
+countedField noted bytes = note.signersField (noteField bytes)
+
 -- what becomes of it: the answer with its count, the records, and the outgoing bytes
 unfoldable pub settledReceipt : Outcome (Answer × List ℕ) → Outcome (Answer × ℕ)
-settledReceipt received = received and-then (λ result. done (result .0, signers.size (signersField (result .1))))
+settledReceipt received = received and-then (λ result. done (result .0, signers.size (countedField (result .0) (result .1))))
 
 unfoldable pub settledRecords : ℕ → Outcome (Answer × List ℕ) → List ℕ → List ℕ
 settledRecords start received records = after received (λ result. replaced start (result .1) records) records

@@ -10,4 +10,5 @@ pub mod Inner
 pub mod Locality
 pub mod Algorithm
 pub mod Differences
+pub mod Notes
 pub mod Preserved

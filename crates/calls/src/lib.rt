@@ -33,12 +33,13 @@ pub enum Announcement {
     Refused(Refusal),
 }
 
-// The answer of receiving (R8.6), with how many signers the record then has (R8.8); and of a preview, with how many it
-// would have (R8.9).
+// The answer of receiving (R8.6, R8.14), with how many signers the record then has, or its note (R8.8); and of a preview,
+// with how many it would have (R8.9).
 pub enum Receipt {
     Kept(u32),
     Signed(u32),
     Delivered(u32),
+    Noted(u32),
     Refused(Refusal),
 }
 
@@ -55,7 +56,7 @@ impl Announcement {
 }
 
 impl Receipt {
-    // R8.8: how many signers the record has afterwards; 0 after a refusal (R5.1).
+    // R8.8: how many signers the record has afterwards, or its note; 0 after a refusal (R5.1).
     pub fn count(self) -> u32
         ensures { λ r. ⌜ r ≡ receiptCount self ⌝ }
     {
@@ -63,6 +64,7 @@ impl Receipt {
             Receipt::Kept(count) => count,
             Receipt::Signed(count) => count,
             Receipt::Delivered(count) => count,
+            Receipt::Noted(count) => count,
             Receipt::Refused(_) => 0,
         }
     }
@@ -228,7 +230,7 @@ enum Decision {
     Refused(Refusal),
 }
 
-// R8.1 to R8.6: reads the bundle, checks the buffers, loads the slot's record and hands it the bundle. Receiving and its
+// R8.1 to R8.6, R8.14 and R8.16: reads the bundle, checks the buffers, loads the slot's record and hands it the bundle. Receiving and its
 // preview differ in what becomes of this.
 fn decide(config: Config, bundle: &[u8], records: &[u8], outgoing: &[u8]) -> Decision
     ensures { λ r. ⌜ decisionOf r ≡ encodedUpdate (receiveOf config (now (bundle .entry)) (now (records .entry)) (now (outgoing .entry))) ⌝ }
@@ -261,11 +263,12 @@ fn store(start: usize, received: Received, records: &mut [u8])
         Received::Kept(record) => put(start, record, records),
         Received::Signed(record) => put(start, record, records),
         Received::Delivered(record) => put(start, record, records),
+        Received::Noted(record) => put(start, record, records),
         Received::Refused(_) => {}
     }
 }
 
-// R8.6 to R8.8: the answer to a bundle, and what goes out: the record's bundle, which is in the slot of the one that came
+// R8.6 to R8.8, R8.14: the answer to a bundle, and what goes out: the record's bundle, which is in the slot of the one that came
 // in.
 fn answer(bundle: &[u8], received: Received, out: &mut [u8]) -> Receipt
     ensures { λ r. ⌜ receiptOf r ≡ settledReceipt (receivedOf received) ⌝ }
@@ -281,6 +284,7 @@ fn answer(bundle: &[u8], received: Received, out: &mut [u8]) -> Receipt
             bundle::encode_like(bundle, record.signers, record.payload, out);
             Receipt::Delivered(signers::size(record.signers))
         }
+        Received::Noted(record) => Receipt::Noted(signers::size(record.note.signers)),
         Received::Refused(reason) => Receipt::Refused(reason),
     }
 }

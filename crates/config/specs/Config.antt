@@ -64,7 +64,7 @@ sameSlot first second = eqb (first .day) (second .day) && (eqb (first .sender) (
 
 -- R4.1: how many bytes a record has
 abbrev pub recordSize : ℕ
-recordSize = 32
+recordSize = 64
 
 -- R4.3: where the slot's record starts. The records lie sender by sender, and those of a sender number by number.
 unfoldable pub slotPlace : Slot → ℕ

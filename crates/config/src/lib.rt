@@ -11,7 +11,7 @@ ghost use Rattle.config.specs.Config.{configOf, leastQuorum, mostQuorum,
 pub const SLOTS: u8 = 16;
 
 // Bytes of one record, and so the distance from one slot's place to the next.
-pub const RECORD_SIZE: usize = 32;
+pub const RECORD_SIZE: usize = 64;
 
 // R2.9: the least quorum that a site may choose.
 pub fn least_quorum(n: u8, t: u8) -> u32
@@ -154,7 +154,7 @@ impl Config {
         slot.place()
     }
 
-    // R4.2: how many bytes the records of a day take: 512 × n, also where the configuration is not good.
+    // R4.2: how many bytes the records of a day take: 1,024 × n, also where the configuration is not good.
     pub fn records_size(self) -> usize
         ensures { λ r. ⌜ r ≡ recordsSize self ⌝ }
     {

@@ -6,17 +6,17 @@ use mathlib.Core.Bool.{Bool, true, false, cond, _&&_, and-eq-true-iff, true≢fa
 use mathlib.Core.List.{List}
 use Prim.Native.Nat.{ℕ, zero, suc, _+_, _≤_, _<_}
 use native.Mathlib.Omega.{arith}
-use lib.Dec.{leb, ltb}
+use lib.Dec.{ltb}
 use lib.ListN.{length, replicate}
 use borrow.Author.Tests.{ltb-true}
 use Rattle.octets.specs.Octets.{blank}
-use Rattle.signers.specs.Signers.{size}
 use Rattle.refusal.specs.Outcome.{Outcome, refused, done, plain, after, checked, _and-then_}
 use Rattle.refusal.proofs.Reasons.{done-clear, Comes, unless-comes, then-comes}
 use Rattle.config.specs.declared.Config.{Config}
 use Rattle.config.specs.Config.{quorum, slots}
 use Rattle.bundle.specs.Bundle.{headerIn, headerReasons, readReasons, read, payloadPart, slotOf}
-use Rattle.protocol.specs.Update.{Record, Held, Delivered, isEmpty, Answer, announced, kept, signed, delivered, Update, updateReasons, joinedSigners, updateResult, update}
+use Rattle.protocol.specs.Update.{Record, Answer, announced, kept, signed, delivered, noted, Update, updateReasons, updateResult, update}
+use Rattle.protocol.proofs.UpdateCases.{result-answer}
 use Rattle.record.specs.Record.{decoded, wellFormed}
 use Rattle.calls.specs.Records.{recordAt, ownSlot}
 use Rattle.calls.specs.Open.{openReasons, opened, openRecords}
@@ -108,16 +108,8 @@ Answers result = listed receiveCodes (answerCode (result .answer)) ≡ true
 
 -- taking never answers announced
 updateResult-listed : (own q signers : ℕ) (payload : List ℕ) (r : Record) → Answers (updateResult own q signers payload r)
-unfolding updateResult listed receiveCodes
-updateResult-listed own q signers payload r = go (leb q (size (joinedSigners own q signers payload r))) (isEmpty r)
-  where
-    go : (enough new : Bool)
-        → Answers
-        (cond enough (record { answer = delivered; newRecord = Delivered (joinedSigners own q signers payload r) payload })
-        (record { answer = cond new signed kept; newRecord = Held (joinedSigners own q signers payload r) payload }))
-    go true new = refl
-    go false true = refl
-    go false false = refl
+unfolding listed receiveCodes
+updateResult-listed = result-answer (λ answer. listed receiveCodes (answerCode answer) ≡ true) refl refl refl refl
 
 update-listed : (own q signers : ℕ) (payload : List ℕ) (r : Record) → Comes (listed receiveCodes) Answers (update own q signers payload r)
 unfolding update updateReasons listed receiveCodes
@@ -226,6 +218,7 @@ refusal-code-changes-nothing config records out = (
     answered kept fine few = omega arith
     answered signed fine few = omega arith
     answered delivered fine few = omega arith
+    answered noted fine few = omega arith
 
     after-receive : (bundle : List ℕ) (o : Outcome Update) → receive config bundle records out ≡ o → listed receiveCodes (receivedCode (receive config bundle records out)) ≡ true
         → RefusalCode (receivedCode o)

@@ -9,7 +9,7 @@ use lib.Dec.{eqb}
 use lib.ListN.{length, replicate}
 use Rattle.refusal.specs.Outcome.{Outcome, refused, done}
 use Rattle.config.specs.declared.Config.{Config}
-use Rattle.protocol.specs.Update.{Answer, announced, kept, signed, delivered, Update}
+use Rattle.protocol.specs.Update.{Answer, announced, kept, signed, delivered, noted, Update}
 use Rattle.calls.specs.Open.{opened, openRecords}
 use Rattle.calls.specs.Broadcast.{broadcast, broadcastRecords, broadcastOut}
 use Rattle.calls.specs.Receive.{receive, receiveRecords, receiveOut}
@@ -24,12 +24,13 @@ abbrev pub announcedCode : Outcome ℕ → ℕ
 announcedCode (refused number) = number
 announcedCode (done seq) = 200 + seq
 
--- and taking has 100 for kept, 101 for signed, 102 for delivered. Taking never answers announced; the number given there is no code.
+-- and taking has 100 for kept, 101 for signed, 102 for delivered and 103 for noted. Taking never answers announced; the number given there is no code.
 abbrev pub answerCode : Answer → ℕ
 answerCode announced = 0
 answerCode kept = 100
 answerCode signed = 101
 answerCode delivered = 102
+answerCode noted = 103
 
 abbrev pub receivedCode : Outcome Update → ℕ
 receivedCode (refused number) = number
@@ -51,12 +52,12 @@ broadcastCodes =
     ∷ 200 ∷ 201 ∷ 202 ∷ 203 ∷ 204 ∷ 205 ∷ 206 ∷ 207 ∷ 208 ∷ 209 ∷ 210 ∷ 211 ∷ 212 ∷ 213 ∷ 214 ∷ 215
     ∷ []
 
--- of taking: its fourteen refusals, and 100 to 102 for the three answers.
+-- of taking: its fourteen refusals, and 100 to 103 for the four answers.
 unfoldable pub receiveCodes : List ℕ
 receiveCodes =
     1 ∷ 2 ∷ 3 ∷ 4 ∷ 5 ∷ 6 ∷ 7 ∷ 8 ∷ 10
     ∷ 20 ∷ 21 ∷ 22 ∷ 23 ∷ 24
-    ∷ 100 ∷ 101 ∷ 102
+    ∷ 100 ∷ 101 ∷ 102 ∷ 103
     ∷ []
 
 -- the code is one of the list

@@ -1,8 +1,7 @@
-// The C interface: opening a day, broadcasting and receiving through numbers and byte slices, with one code for an answer.
+// The C interface: opening a day and receiving through numbers and byte slices, with one code for an answer.
 //
-// include/mbrb.h declares the functions for C and C++, with those of crates mbrb_preview and mbrb_setpoint. A slice passes as a pointer and a length; what
-// the host must see to there is in that file.
-use calls::Announcement;
+// include/mbrb.h declares the functions for C and C++, with those of crates mbrb_broadcast, mbrb_preview and mbrb_setpoint.
+// A slice passes as a pointer and a length; what the host must see to there is in that file.
 use calls::Receipt;
 use config::Config;
 use refusal::Verdict;
@@ -10,9 +9,8 @@ ghost use mathlib.Core.Path.{_≡_};
 ghost use Rattle.refusal.specs.Refusal.{verdictOf};
 ghost use Rattle.config.specs.Config.{configOf};
 ghost use Rattle.calls.specs.Open.{opened, openRecords};
-ghost use Rattle.calls.specs.Broadcast.{broadcast, broadcastRecords, broadcastOut, announcementOf};
 ghost use Rattle.calls.specs.Receive.{receive, receiveRecords, receiveOut, receiptOf};
-ghost use Rattle.mbrb.specs.Code.{openedCode, announcedCode, receivedCode, reportedCode};
+ghost use Rattle.mbrb.specs.Code.{openedCode, receivedCode, reportedCode};
 
 // Opens the day: makes every record empty. The code is 0, or the refusal's number.
 #[no_mangle]
@@ -31,28 +29,7 @@ pub extern "C" fn mbrb_open(
     verdict_code(calls::open(Config::new(n, t, d, own, day, quorum), records))
 }
 
-// Broadcasts a payload. The code is 200 plus the sequence number, or the refusal's number.
-#[no_mangle]
-pub extern "C" fn mbrb_broadcast(
-    n: u8,
-    t: u8,
-    d: u8,
-    own: u8,
-    day: u32,
-    quorum: u32,
-    payload: &[u8],
-    records: &mut [u8],
-    out: &mut [u8],
-) -> u32
-    ensures { λ r. ⌜ r ≡ announcedCode (broadcast (configOf n t d own day quorum) (now (payload .entry)) (now (records .entry)) (now (out .entry))) ⌝ }
-    ensures { λ _. ⌜ now (records .exit) ≡ broadcastRecords (configOf n t d own day quorum) (now (payload .entry)) (now (records .entry)) (now (out .entry)) ⌝ }
-    ensures { λ _. ⌜ now (out .exit) ≡ broadcastOut (configOf n t d own day quorum) (now (payload .entry)) (now (records .entry)) (now (out .entry)) ⌝ }
-{
-    let config = Config::new(n, t, d, own, day, quorum);
-    announcement_code(calls::broadcast(config, payload, records, out))
-}
-
-// Receives a bundle. The code is 100 for kept, 101 for signed, 102 for delivered, or the refusal's number.
+// Receives a bundle. The code is 100 for kept, 101 for signed, 102 for delivered, 103 for noted, or the refusal's number.
 #[no_mangle]
 pub extern "C" fn mbrb_receive(
     n: u8,
@@ -82,15 +59,6 @@ fn verdict_code(verdict: Verdict) -> u32
     }
 }
 
-fn announcement_code(announcement: Announcement) -> u32
-    ensures { λ r. ⌜ r ≡ announcedCode (announcementOf announcement) ⌝ }
-{
-    match announcement {
-        Announcement::Announced(seq) => 200 + (seq as u32),
-        Announcement::Refused(reason) => refusal::number(reason),
-    }
-}
-
 // The code of receiving, and of a preview.
 pub fn receipt_code(receipt: Receipt) -> u32
     ensures { λ r. ⌜ r ≡ reportedCode (receiptOf receipt) ⌝ }
@@ -99,6 +67,7 @@ pub fn receipt_code(receipt: Receipt) -> u32
         Receipt::Kept(_) => 100,
         Receipt::Signed(_) => 101,
         Receipt::Delivered(_) => 102,
+        Receipt::Noted(_) => 103,
         Receipt::Refused(reason) => refusal::number(reason),
     }
 }

@@ -2,7 +2,7 @@
 // `stdout` holds that. Then come the bundles that were sent, a delivered payload, whether one node has something
 // to send on, and each reason for which the calls refuse (R5.3).
 //
-// It shows how the calls are used. A node has 512 bytes of records for each node of the system, opens the day
+// It shows how the calls are used. A node has 1,024 bytes of records for each node of the system, opens the day
 // over them once, and from then on lends them, with 32 outgoing bytes, to each call. It sends the outgoing
 // bytes to all when the answer is announced, signed or delivered. No call keeps anything elsewhere.
 mod print;
@@ -123,7 +123,7 @@ fn receive(step: u64, own: u8, bundle: &[u8], records: &mut [u8], out: &mut [u8]
     receive_row(step, own, answer);
 }
 
-// What is signed or delivered is to be sent; what is kept is not.
+// What is signed or delivered is to be sent; what is kept or noted is not.
 fn receive_row(step: u64, own: u8, answer: Receipt) {
     decimal(step);
     text(b" B ");
@@ -132,6 +132,7 @@ fn receive_row(step: u64, own: u8, answer: Receipt) {
         Receipt::Kept(_) => text(b" kept 0 "),
         Receipt::Signed(_) => text(b" signed 0 "),
         Receipt::Delivered(_) => text(b" delivered 0 "),
+        Receipt::Noted(_) => text(b" noted 0 "),
         Receipt::Refused(reason) => refused(reason),
     }
     decimal(answer.count() as u64);
@@ -241,6 +242,7 @@ fn to_send(bundle: &[u8], records: &mut [u8], out: &mut [u8]) -> bool {
         Receipt::Signed(_) => true,
         Receipt::Delivered(_) => true,
         Receipt::Kept(_) => false,
+        Receipt::Noted(_) => false,
         Receipt::Refused(_) => false,
     }
 }

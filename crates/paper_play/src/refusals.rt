@@ -14,6 +14,9 @@ use calls::Receipt;
 use config::Config;
 use refusal::Verdict;
 
+// One byte too few for records.
+const SHORT: usize = RECORDS_SIZE - 1;
+
 // On the records that the run left: `held` of node 1, which holds node 0's payload, and `done` of node 2, which
 // delivered it. The bundle is the one that node 0 announced.
 pub(crate) fn all(held: [u8; RECORDS_SIZE], done: [u8; RECORDS_SIZE], bundle: [u8; bundle::SIZE]) {
@@ -30,9 +33,9 @@ pub(crate) fn all(held: [u8; RECORDS_SIZE], done: [u8; RECORDS_SIZE], bundle: [u
 // Reasons 1 and 20.
 fn open_reasons(held: [u8; RECORDS_SIZE]) {
     let mut records = held;
-    let mut short = [0xeeu8; 2047];
+    let mut short = [0xeeu8; SHORT];
     open(node(4), &held, &mut records);
-    open(node(1), &[0xeeu8; 2047], &mut short);
+    open(node(1), &[0xeeu8; SHORT], &mut short);
 }
 
 // Reasons 1, 9, 10, 20, 21 and 25.
@@ -63,8 +66,16 @@ fn receive_reasons(held: [u8; RECORDS_SIZE], done: [u8; RECORDS_SIZE], bundle: [
     receive(node(2), &bundle, done);
     // Our own signature, in a slot of which we know nothing.
     receive_altered(bundle, 15, 3, opened(1));
-    // Another payload than the one held, signed by its sender alone.
-    receive_altered(bundle, 31, 0, held);
+    // A third payload, signed by its sender alone, where one is held and another noted.
+    receive_altered(bundle, 31, 1, noting(held, with_byte(bundle, 31, 0)));
+}
+
+// The records after node 1 noted a second payload.
+fn noting(held: [u8; RECORDS_SIZE], bundle: [u8; bundle::SIZE]) -> [u8; RECORDS_SIZE] {
+    let mut records = held;
+    let mut out = [0u8; bundle::SIZE];
+    calls::receive(node(1), &bundle, &mut records, &mut out);
+    records
 }
 
 // Reasons 1, 5, 6, 20, 21 and 26. Node 1 holds the payload and has not delivered it.
@@ -72,7 +83,7 @@ fn delivered_reasons(held: &[u8], wrong: &[u8]) {
     delivered(node(4), 0, 0, held);
     delivered(node(1), 4, 0, held);
     delivered(node(1), 0, 16, held);
-    delivered(node(1), 0, 0, &[0xeeu8; 2047]);
+    delivered(node(1), 0, 0, &[0xeeu8; SHORT]);
     delivered(node(1), 0, 0, wrong);
     delivered(node(1), 0, 0, held);
 }
@@ -120,9 +131,9 @@ fn short_broadcasts(held: [u8; RECORDS_SIZE]) {
     let mut records = held;
     let mut short_out = [0xeeu8; 31];
     broadcast_over(node(1), &PAYLOAD, &held, &mut records, &mut short_out);
-    let mut short = [0xeeu8; 2047];
+    let mut short = [0xeeu8; SHORT];
     let mut out = [0xeeu8; bundle::SIZE];
-    broadcast_over(node(1), &PAYLOAD, &[0xeeu8; 2047], &mut short, &mut out);
+    broadcast_over(node(1), &PAYLOAD, &[0xeeu8; SHORT], &mut short, &mut out);
 }
 
 // Announces over records that are a copy of `before`, and outgoing bytes that are all ee.
@@ -168,9 +179,9 @@ fn short_receives(held: [u8; RECORDS_SIZE], bundle: &[u8]) {
     let mut records = held;
     let mut short_out = [0xeeu8; 31];
     receive_over(node(1), bundle, &held, &mut records, &mut short_out);
-    let mut short = [0xeeu8; 2047];
+    let mut short = [0xeeu8; SHORT];
     let mut out = [0xeeu8; bundle::SIZE];
-    receive_over(node(1), bundle, &[0xeeu8; 2047], &mut short, &mut out);
+    receive_over(node(1), bundle, &[0xeeu8; SHORT], &mut short, &mut out);
 }
 
 // Receives a bundle over records that are a copy of `before`, and outgoing bytes that are all ee.
@@ -212,6 +223,7 @@ fn receive_reason(answer: Receipt) -> u32 {
         Receipt::Kept(_) => 0,
         Receipt::Signed(_) => 0,
         Receipt::Delivered(_) => 0,
+        Receipt::Noted(_) => 0,
         Receipt::Refused(reason) => refusal::number(reason),
     }
 }

@@ -1,7 +1,7 @@
 // A payload (R3.4) as a value: its 16 bytes as two words, high byte first. The calls pass payloads on in
 // this form; bundles, records and run files have them as bytes.
 ghost use mathlib.Core.Path.{_≡_};
-ghost use Rattle.octets.specs.Octets.{same as sameBytes};
+ghost use Rattle.octets.specs.Octets.{same as sameBytes, blank};
 ghost use Rattle.payload.specs.Payload.{bytes, loaded};
 
 // A payload's bytes.
@@ -36,6 +36,16 @@ impl Payload {
         octets::put(&mut out, 0, self.high);
         octets::put(&mut out, 8, self.low);
         out
+    }
+
+    // Whether all 16 bytes are zero.
+    pub fn is_blank(self) -> bool
+        ensures { λ r. ⌜ r ≡ blank (bytes self) ⌝ }
+    {
+        if self.high != 0 {
+            return false;
+        }
+        self.low == 0
     }
 
     // Whether the two have the same bytes.

@@ -14,7 +14,7 @@ use Rattle.protocol.specs.Trace.{Trace, _then_calls_}
 use Rattle.protocol.specs.OneSlot.{Act, recordAfter, signs, currentRecord, ever, correct, Lawful}
 use Rattle.protocol.proofs.TraceLaws.{ever-grows}
 use Rattle.protocol.proofs.CorrectNodes.{correct-below}
-use Rattle.protocol.proofs.UpdateCases.{UpdateCase, refusing, broadcasting, signing, signing-and-delivering, joining, completing, replacing}
+use Rattle.protocol.proofs.UpdateCases.{UpdateCase, refusing, broadcasting, signing, signing-and-delivering, joining, completing, replacing, noting}
 use Rattle.protocol.proofs.TraceInduction.{NodeView, trace-induction}
 use Rattle.protocol.proofs.GenuineSignatures.{RecordGenuine, record-genuine}
 use Rattle.protocol.proofs.SignedSoFar.{signs-one-payload}
@@ -31,8 +31,8 @@ module _ (n q sender : ℕ) (faulty : NodeSet) (fits : n ≤ 64) (good : correct
     where
       go : (r : Record) → RecordGenuine n q sender faulty trace u r → isEmpty r ≡ false → ever q (signs q (payloadOf r)) trace sender ≡ true
       go Empty k e = absurd (true≢false e)
-      go (Held signers payload) k e = k .genuine .signed sender good (k .has-sender)
-      go (Delivered signers payload) k e = k .genuine .signed sender good (k .has-sender)
+      go (Held signers payload note) k e = k .genuine .signed sender good (k .has-sender)
+      go (Delivered signers payload note) k e = k .genuine .signed sender good (k .has-sender)
 
   -- Every update keeps it. No bundle replaces the payload of a held record, since the sender has signed only one.
   record-signed-step : (earlier : Trace Act) (u caller : ℕ) (act : Act) (r : Record) (o : Outcome Update)
@@ -59,6 +59,8 @@ module _ (n q sender : ℕ) (faulty : NodeSet) (fits : n ≤ 64) (good : correct
       let k = rw (view .found) at (record-genuine n q sender faulty fits earlier u then-lawful c) in
       absurd (other (signs-one-payload q earlier sender (omega (arith, correct-below n faulty sender good)) held payload
       (k .genuine .signed sender good (k .has-sender)) (signed sender good has-sender)))
+  record-signed-step earlier u caller act r o (noting {held = held} other few known) view l c before e =
+      ever-grows (λ node. Empty) (recordAfter q) (signs q held) earlier u caller act (before e)
 
   -- so it holds at every correct node after every lawful trace
   pub record-signed : (trace : Trace Act) (u : ℕ) → Lawful n q sender faulty trace → correct n faulty u ≡ true → RecordSigned q trace u (currentRecord q trace u)

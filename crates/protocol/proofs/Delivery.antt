@@ -16,7 +16,7 @@ use Rattle.signers.proofs.Counting.{count-mono, count-some, some-member, pigeon
 use Rattle.signers.proofs.Members.{insert-own, within-lt, size-count}
 use Rattle.refusal.specs.Outcome.{Outcome, refused, done, after, unless}
 use Rattle.protocol.specs.Update as protocol
-use Rattle.protocol.specs.Update.{Record, Empty, Held, Delivered, signersOf, payloadOf, isEmpty, Update, announcedBy}
+use Rattle.protocol.specs.Update.{Note, Record, Empty, Held, Delivered, signersOf, payloadOf, isEmpty, Update, announcedBy}
 use Rattle.protocol.specs.Trace.{Trace}
 use Rattle.protocol.specs.OneSlot.{Act, Broadcast, Receive, outcome, recordAfter, sendsThis, signs, deliversThis, broadcasts, broadcastsThis, receives, currentRecord, ever, correct, Quorum, Lawful, NearlyAll, Reached, Delivery}
 use Rattle.protocol.proofs.CorrectNodes.{correct-below, correct-many}
@@ -91,8 +91,8 @@ module _ (q : ℕ) (trace : Trace Act) (u : ℕ) where
     where
       each : (act : Act) (r : Record) → broadcastsThis q payload u act r ≡ true → signs q payload u act r ≡ true
       each (Broadcast first) Empty k = rw (k, insert-own 0 u room)
-      each (Broadcast first) (Held signers held) k = absurd (false≢true k)
-      each (Broadcast first) (Delivered signers held) k = absurd (false≢true k)
+      each (Broadcast first) (Held signers held note) k = absurd (false≢true k)
+      each (Broadcast first) (Delivered signers held note) k = absurd (false≢true k)
       each (Receive signers first) r k = absurd (false≢true k)
 
 -- ---- counting the nodes that deliver
@@ -116,8 +116,8 @@ module _ (n t d q sender : ℕ) (faulty : NodeSet) (trace : Trace Act) (quorum :
     pub delivered-delivery : (u : ℕ) (payload : List ℕ) → correct n faulty u ≡ true → ever q (deliversThis q payload) trace u ≡ true
         → NearlyAll n q sender faulty d trace (ever q (deliversThis q payload) trace)
     delivered-delivery u payload c e =
-        let (signers, is, sent) = delivered-record q trace u payload e in
-        let enough = delivered-genuine n t d q sender faulty trace quorum few lawful u signers payload c is .enough in
+        let (signers, note, is, sent) = delivered-record q trace u payload e in
+        let enough = delivered-genuine n t d q sender faulty trace quorum few lawful u signers payload note c is .enough in
         nearly-mono (ever q (receives q signers payload) trace) (ever q (deliversThis q payload) trace)
         (λ v cv h. each signers enough v cv (currentRecord q trace v) refl (bundle-kept n q sender faulty (quorum .fits) trace v lawful cv signers payload h))
         (reached u signers payload c sent)
@@ -125,9 +125,9 @@ module _ (n t d q sender : ℕ) (faulty : NodeSet) (trace : Trace Act) (quorum :
         each : (signers : ℕ) → q ≤ size signers → (v : ℕ) → correct n faulty v ≡ true → (r : Record) → currentRecord q trace v ≡ r
             → BundleKept q signers payload r → ever q (deliversThis q payload) trace v ≡ true
         each signers enough v cv Empty is h = absurd h
-        each signers enough v cv (Held all held) is h = absurd (omega (arith, h .1))
-        each signers enough v cv (Delivered all held) is h =
-            let done-so = record-delivered q trace v all held is in
+        each signers enough v cv (Held all held note) is h = absurd (omega (arith, h .1))
+        each signers enough v cv (Delivered all held note) is h =
+            let done-so = record-delivered q trace v all held note is in
             rw (agreement n t d q sender faulty trace quorum few lawful u v payload held c cv e done-so) done-so
 
     module _ (payload : List ℕ) (good : correct n faulty sender ≡ true) (sender-has : ever q (signs q payload) trace sender ≡ true) where
@@ -151,8 +151,8 @@ module _ (n t d q sender : ℕ) (faulty : NodeSet) (trace : Trace Act) (quorum :
         where
           filled : (r : Record) → BundleKept q signers payload r → isEmpty r ≡ false
           filled Empty a = absurd a
-          filled (Held all held) a = refl
-          filled (Delivered all held) a = refl
+          filled (Held all held note) a = refl
+          filled (Delivered all held note) a = refl
 
       -- each signer's bundle reaches all correct nodes but d, and they are signers
       signer-reaches : (s : ℕ) → Signers s ≡ true
@@ -202,9 +202,9 @@ module _ (n t d q sender : ℕ) (faulty : NodeSet) (trace : Trace Act) (quorum :
           (record-genuine n q sender faulty (quorum .fits) trace v lawful c)
         where
           -- if its record were held, it would have all those signers, and so a quorum
-          member-all : correct n faulty v ≡ true → (all : ℕ) (held : List ℕ) → currentRecord q trace v ≡ Held all held
+          member-all : correct n faulty v ≡ true → (all : ℕ) (held : List ℕ) (note : Note) → currentRecord q trace v ≡ Held all held note
               → (s : ℕ) → (Signers s && ever q (receivesSigned payload s) trace v) ≡ true → member all s ≡ true
-          member-all c all held rec s e =
+          member-all c all held note rec s e =
               let (given, h, m) = received-signed q trace v payload s (and-eq-true-iff (Signers s) (ever q (receivesSigned payload s) trace v) .0 e .1) in
               let a = rw rec at (bundle-kept n q sender faulty (quorum .fits) trace v lawful c given payload h) in
               let one : held ≡ payload = (rw rec at (one-payload v c)) refl in
@@ -214,12 +214,12 @@ module _ (n t d q sender : ℕ) (faulty : NodeSet) (trace : Trace Act) (quorum :
               → (r : Record) → currentRecord q trace v ≡ r → BundleKept q given payload r → RecordGenuine n q sender faulty trace v r
               → ever q (deliversThis q payload) trace v ≡ true
           go c given h Empty rec a k = absurd a
-          go c given h (Held all held) rec a k =
-              let larger = count-mono (both Signers (λ s. ever q (receivesSigned payload s) trace v)) (member all) n (λ s l e. member-all c all held rec s e) in
+          go c given h (Held all held note) rec a k =
+              let larger = count-mono (both Signers (λ s. ever q (receivesSigned payload s) trace v)) (member all) n (λ s l e. member-all c all held note rec s e) in
               absurd (omega (arith, size-count all n (within-lt all n (k .genuine .inside)), a .0))
-          go c given h (Delivered all held) rec a k =
+          go c given h (Delivered all held note) rec a k =
               let one : held ≡ payload = (rw rec at (one-payload v c)) refl in
-              rw (sym one) (record-delivered q trace v all held rec)
+              rw (sym one) (record-delivered q trace v all held note rec)
 
       -- so nearly all deliver
       pub signed-delivery : NearlyAll n q sender faulty d trace (ever q (deliversThis q payload) trace)

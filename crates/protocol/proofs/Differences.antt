@@ -6,14 +6,14 @@ use mathlib.Core.Bool.{Bool, true, false, cond, _&&_, true≢false, and-true, an
 use mathlib.Core.List.{List, [], _∷_}
 use Prim.Native.Nat.{ℕ, _≤_, _<_}
 use lib.Dec.{leb, ltb, eqb}
-use borrow.Author.Tests.{le-leb, ltb-false, eqb-true, not-true}
+use borrow.Author.Tests.{le-leb, ltb-true, ltb-false, eqb-true, not-true}
 use Rattle.octets.specs.Octets.{same}
 use Rattle.octets.proofs.Booleans.{or-cases}
 use Rattle.octets.proofs.Same.{same-says, same-self}
-use Rattle.signers.specs.Signers.{member, insert, size}
+use Rattle.signers.specs.Signers.{member, insert, union, size}
 use Rattle.signers.proofs.Members.{insert-own}
 use Rattle.refusal.specs.Outcome.{Outcome, after}
-use Rattle.protocol.specs.Update.{Record, Empty, Held, Delivered, Update, signed, delivered, delivers, updateReasons, joinedSigners, updateResult, update}
+use Rattle.protocol.specs.Update.{Note, Nothing, Noted, Record, Empty, Held, Delivered, notedSigners, Update, signed, delivered, noted, delivers, updateReasons, joinedSigners, updateResult, update}
 use Rattle.protocol.specs.Trace as trace
 use Rattle.protocol.specs.Trace.{Trace, start, _then_calls_}
 use Rattle.protocol.specs.OneSlot.{Act, outcome, recordAfter, signs, deliversThis, currentRecord, ever}
@@ -23,7 +23,7 @@ use Rattle.protocol.proofs.Algorithm.{one-joined, valid-absent}
 use Rattle.protocol.proofs.WellFormed.{update-done}
 use Rattle.protocol.proofs.TraceInduction.{resultSigns, resultDelivers}
 use Rattle.protocol.proofs.TraceLaws.{ever-own, ever-grows}
-use Rattle.protocol.proofs.UpdateCases.{UpdateCase, refusing, broadcasting, signing, signing-and-delivering, joining, completing, replacing, update-case}
+use Rattle.protocol.proofs.UpdateCases.{UpdateCase, refusing, broadcasting, signing, signing-and-delivering, joining, completing, replacing, noting, update-case}
 use Rattle.protocol.proofs.SignedSoFar.{signed-so-far, signs-one-payload}
 
 -- ---- one update
@@ -31,14 +31,23 @@ use Rattle.protocol.proofs.SignedSoFar.{signed-so-far, signs-one-payloa
 pub other-needs-quorum : OtherNeedsQuorum
 unfolding updateReasons joinedSigners updateResult
 other-needs-quorum own q signers payload Empty result e other = absurd (true≢false (sym other))
-other-needs-quorum own q signers payload (Held old held) result e other =
-    let (clear, is) = update-done own q signers payload (Held old held) result e in
-    let apart : same held payload ≡ false = not-true (same held payload) other in
-    let few : ltb (size signers) q ≡ false = rw apart at (clear .1 .1 .0) in
-    let enough : q ≤ size signers = ltb-false (size signers) q few in
-    (enough, sym is ∙ rw (apart, le-leb q (size signers) enough))
-other-needs-quorum own q signers payload (Delivered old held) result e other =
-    absurd (true≢false (update-done own q signers payload (Delivered old held) result e .0 .0))
+other-needs-quorum own q signers payload (Held old held note) result e other = go (ltb (size signers) q) refl
+  where
+    is : updateResult own q signers payload (Held old held note) ≡ result
+    is = update-done own q signers payload (Held old held note) result e .1
+
+    apart : same held payload ≡ false
+    apart = not-true (same held payload) other
+
+    go : (few : Bool) → ltb (size signers) q ≡ few
+        → ((q ≤ size signers) × (result ≡ record { answer = delivered; newRecord = Delivered signers payload (Noted old held) }))
+        ⊎ ((size signers < q) × (result ≡ record { answer = noted; newRecord = Held old held (Noted (union (notedSigners note) signers) payload) }))
+    go true f = inr (ltb-true (size signers) q f, sym is ∙ rw (apart, f))
+    go false f =
+        let enough : q ≤ size signers = ltb-false (size signers) q f in
+        inl (enough, sym is ∙ rw (apart, f, le-leb q (size signers) enough))
+other-needs-quorum own q signers payload (Delivered old held note) result e other =
+    absurd (true≢false (update-done own q signers payload (Delivered old held note) result e .0 .0))
 
 pub one-bundle-for-both : OneBundleForBoth
 unfolding updateReasons updateResult joinedSigners onBundle line5 andLine9 line9 bundleEffect save sign stateOf effectsOf
@@ -53,8 +62,8 @@ one-bundle-for-both own q sender signers payload result present e d =
     saved = rw (same-self payload) (one-joined signers own)
 
     go : (full : Bool) → leb q (size (insert signers own)) ≡ full
-        → cond full (record { answer = delivered; newRecord = Delivered (insert signers own) payload }) (record { answer = signed; newRecord = Held (insert signers own) payload }) ≡ result
-        → (result ≡ record { answer = delivered; newRecord = Delivered (insert signers own) payload })
+        → cond full (record { answer = delivered; newRecord = Delivered (insert signers own) payload Nothing }) (record { answer = signed; newRecord = Held (insert signers own) payload Nothing }) ≡ result
+        → (result ≡ record { answer = delivered; newRecord = Delivered (insert signers own) payload Nothing })
         × (effectsOf result ≡ broadcast (insert signers own) payload ∷ deliver payload ∷ [])
         × (onBundle own (atLeast q) sender payload signers (stateOf Empty) .effects
         ≡ broadcast (insert signers own) payload ∷ broadcast (insert signers own) payload ∷ deliver payload ∷ [])
@@ -65,8 +74,8 @@ one-bundle-for-both own q sender signers payload result present e d =
 
 module _ (q u : ℕ) (room : u < 64) where
   -- what a held record holds was signed
-  held-signed : (list : Trace Act) (signers : ℕ) (payload : List ℕ) → currentRecord q list u ≡ Held signers payload → ever q (signs q payload) list u ≡ true
-  held-signed list signers payload is = (rw is at (signed-so-far q list u room)) .signed
+  held-signed : (list : Trace Act) (signers : ℕ) (payload : List ℕ) (note : Note) → currentRecord q list u ≡ Held signers payload note → ever q (signs q payload) list u ≡ true
+  held-signed list signers payload note is = (rw is at (signed-so-far q list u room)) .signed
 
   empty-unsigned : (list : Trace Act) → currentRecord q list u ≡ Empty → (payload : List ℕ) → ever q (signs q payload) list u ≡ false
   empty-unsigned list is payload = go (ever q (signs q payload) list u) refl
@@ -75,9 +84,9 @@ module _ (q u : ℕ) (room : u < 64) where
       go true e = absurd ((rw is at (signed-so-far q list u room)) payload e)
       go false e = refl
 
-  delivered-some-signed : (list : Trace Act) (signers : ℕ) (payload : List ℕ) → currentRecord q list u ≡ Delivered signers payload
+  delivered-some-signed : (list : Trace Act) (signers : ℕ) (payload : List ℕ) (note : Note) → currentRecord q list u ≡ Delivered signers payload note
       → (signed : List ℕ) × (ever q (signs q signed) list u ≡ true)
-  delivered-some-signed list signers payload is = let (first, only) = rw is at (signed-so-far q list u room) in (first, only .signed)
+  delivered-some-signed list signers payload note is = let (first, only) = rw is at (signed-so-far q list u room) in (first, only .signed)
 
   module _ (payload : List ℕ) where
     -- the act that delivers signs the payload, finds it held and so signed, or brings a quorum
@@ -92,8 +101,9 @@ module _ (q u : ℕ) (room : u < 64) where
         inl (rw (d, insert-own signers u room))
     delivers-now earlier act r o is (joining few) d = absurd (true≢false (sym d))
     delivers-now earlier act r o is (completing {payload = held} enough) d =
-        inr (inl (rw (← same-says held payload d) (held-signed earlier _ held is)))
+        inr (inl (rw (← same-says held payload d) (held-signed earlier _ held _ is)))
     delivers-now earlier act r o is (replacing {signers = signers} other absent enough) d = inr (inr (le-leb q (size signers) enough))
+    delivers-now earlier act r o is (noting other few known) d = absurd (true≢false (sym d))
 
     abbrev SignedOrAtOnce : (list : Trace Act) → Type 0
     SignedOrAtOnce list = (ever q (signs q payload) list u ≡ true) ⊎ (ever q (deliversAtOnce q payload) list u ≡ true)

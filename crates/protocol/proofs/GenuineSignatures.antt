@@ -22,7 +22,7 @@ use Rattle.protocol.specs.Trace.{Trace, _then_calls_}
 use Rattle.protocol.specs.OneSlot.{Act, Receive, recordAfter, signs, broadcasts, broadcastsThis, currentRecord, ever, correct, Allowed, Lawful}
 use Rattle.protocol.proofs.CorrectNodes.{correct-below}
 use Rattle.protocol.proofs.TraceLaws.{ever-grows}
-use Rattle.protocol.proofs.UpdateCases.{UpdateCase, refusing, broadcasting, signing, signing-and-delivering, joining, completing, replacing}
+use Rattle.protocol.proofs.UpdateCases.{UpdateCase, refusing, broadcasting, signing, signing-and-delivering, joining, completing, replacing, noting}
 use Rattle.protocol.proofs.TraceInduction.{NodeView, trace-induction}
 use Rattle.protocol.proofs.SignedSoFar.{SignedSoFar, signed-so-far, signs-one-payload}
 
@@ -58,8 +58,8 @@ module _ (n q sender : ℕ) (faulty : NodeSet) where
   -- what holds in each state of the record
   abbrev pub RecordGenuine : (trace : Trace Act) (u : ℕ) (r : Record) → Type 0
   RecordGenuine trace u Empty = Unit
-  RecordGenuine trace u (Held signers payload) = HeldGenuine trace u signers payload
-  RecordGenuine trace u (Delivered signers payload) = DeliveredGenuine trace u signers payload
+  RecordGenuine trace u (Held signers payload note) = HeldGenuine trace u signers payload
+  RecordGenuine trace u (Delivered signers payload note) = DeliveredGenuine trace u signers payload
 
   -- the signatures of a bundle that may be received are genuine
   pub allowed-genuine : (earlier : Trace Act) (caller signers : ℕ) (payload : List ℕ) → Allowed n q sender faulty earlier caller (Receive signers payload)
@@ -73,12 +73,12 @@ module _ (n q sender : ℕ) (faulty : NodeSet) where
     signed-grows payload u = ever-grows (λ node. Empty) (recordAfter q) (signs q payload) earlier u caller act
 
     -- so genuine signatures stay genuine,
-    genuine-grows : (signers : ℕ) (payload : List ℕ) → Genuine earlier signers payload → Genuine (earlier then caller calls act) signers payload
+    pub genuine-grows : (signers : ℕ) (payload : List ℕ) → Genuine earlier signers payload → Genuine (earlier then caller calls act) signers payload
     genuine-grows signers payload b =
         record { inside = b .inside; signed = λ v c m. signed-grows payload v (b .signed v c m) }
 
     -- also joined with others,
-    genuine-union : (a b : ℕ) (payload : List ℕ) → Genuine earlier a payload → Genuine earlier b payload
+    pub genuine-union : (a b : ℕ) (payload : List ℕ) → Genuine earlier a payload → Genuine earlier b payload
         → Genuine (earlier then caller calls act) (union a b) payload
     genuine-union a b payload ba bb =
         record {
@@ -113,7 +113,7 @@ module _ (n q sender : ℕ) (faulty : NodeSet) where
     -- an act that is refused
     genuine-refused : (u : ℕ) (r : Record) → RecordGenuine earlier u r → RecordGenuine (earlier then caller calls act) u r
     genuine-refused u Empty before = tt
-    genuine-refused u (Held signers payload) before =
+    genuine-refused u (Held signers payload note) before =
         record {
           genuine = genuine-grows signers payload (before .genuine);
           has-sender = before .has-sender;
@@ -122,7 +122,7 @@ module _ (n q sender : ℕ) (faulty : NodeSet) where
           own-signed = signed-grows payload u (before .own-signed);
           announced = λ s. announced-grows payload u (before .announced s);
         }
-    genuine-refused u (Delivered signers payload) before =
+    genuine-refused u (Delivered signers payload note) before =
         record {
           genuine = genuine-grows signers payload (before .genuine);
           has-sender = before .has-sender;
@@ -204,6 +204,8 @@ module _ (n q sender : ℕ) (faulty : NodeSet) where
         own-signed = signed-grows earlier caller act held u (before .own-signed);
         announced = λ s. announced-grows earlier caller act held u (before .announced s);
       }
+  genuine-step fits earlier u caller act r o (noting {old = old} {held = held} {note = note} other few known) view a below before =
+      genuine-refused earlier caller act u (Held old held note) before
 
   -- so they are genuine at every correct node after every lawful trace
   pub record-genuine : n ≤ 64 → (trace : Trace Act) (u : ℕ) → Lawful n q sender faulty trace → correct n faulty u ≡ true → RecordGenuine trace u (currentRecord q trace u)
@@ -230,5 +232,5 @@ module _ (n q sender : ℕ) (faulty : NodeSet) where
 
         go : (r : Record) → RecordGenuine trace sender r → SignedSoFar q trace sender r → ever q (broadcastsThis q payload) trace sender ≡ true
         go Empty k none = absurd (none payload e)
-        go (Held signers first) k s = broadcast first (k .own-signed) (k .announced refl)
-        go (Delivered signers first) k s = broadcast (k .signed-payload) (k .own-signed) (k .announced refl)
+        go (Held signers first note) k s = broadcast first (k .own-signed) (k .announced refl)
+        go (Delivered signers first note) k s = broadcast (k .signed-payload) (k .own-signed) (k .announced refl)

@@ -13,6 +13,7 @@ pub mod ReceivedBundleKept
 pub mod AgreementValidity
 pub mod Delivery
 pub mod OneSlot
+pub mod Notes
 pub mod Algorithm
 pub mod Differences
 pub mod ComputedTests

@@ -16,17 +16,17 @@ use Rattle.protocol.specs.Trace as trace
 use Rattle.protocol.specs.Trace.{Trace, _then_calls_}
 use Rattle.protocol.specs.OneSlot.{Act, Receive, receives, currentRecord, ever, correct, Allowed, Lawful}
 use Rattle.protocol.proofs.CorrectNodes.{correct-below}
-use Rattle.protocol.proofs.UpdateCases.{RefusalCase, own-signature-unknown, no-quorum, UpdateCase, refusing, broadcasting, signing, signing-and-delivering, joining, completing, replacing}
+use Rattle.protocol.proofs.UpdateCases.{RefusalCase, own-signature-unknown, third-payload, UpdateCase, refusing, broadcasting, signing, signing-and-delivering, joining, completing, replacing, noting}
 use Rattle.protocol.proofs.TraceInduction.{NodeView, trace-induction}
 use Rattle.protocol.proofs.SignedSoFar.{SignedSoFar, signed-so-far}
-use Rattle.protocol.proofs.GenuineSignatures.{RecordGenuine, record-genuine}
+use Rattle.protocol.proofs.GenuineSignatures.{HeldGenuine, RecordGenuine, record-genuine}
 
 -- what holds of the record after the bundle
 abbrev pub BundleKept : (q signers : ℕ) (payload : List ℕ) (r : Record) → Type 0
 BundleKept q signers payload Empty = ⊥
-BundleKept q signers payload (Held all held) =
+BundleKept q signers payload (Held all held note) =
     (size all < q) × (size signers < q) × (payload ≡ held → (v : ℕ) → member signers v ≡ true → member all v ≡ true)
-BundleKept q signers payload (Delivered all held) = Unit
+BundleKept q signers payload (Delivered all held note) = Unit
 
 -- every later update keeps it so
 kept-still : (q u caller : ℕ) (act : Act) (r : Record) (o : Outcome Update) (given : ℕ) (first : List ℕ)
@@ -39,19 +39,27 @@ kept-still q u caller act r o given first (joining {signers = signers} {old = ol
     (few, h .1, λ e v m. union-left old signers v (h .2 e v m))
 kept-still q u caller act r o given first (completing enough) h = tt
 kept-still q u caller act r o given first (replacing other absent enough) h = tt
+kept-still q u caller act r o given first (noting other few known) h = h
 
 module _ (n q sender : ℕ) (faulty : NodeSet) (fits : n ≤ 64) where
+  -- a bundle with a second payload, which leaves the one that is held with fewer than q signers
+  kept-second : (earlier : Trace Act) (u caller signers : ℕ) (payload : List ℕ) (old : ℕ) (held : List ℕ) → (held ≡ payload → ⊥) → size signers < q
+      → Allowed n q sender faulty earlier caller (Receive signers payload) → HeldGenuine n q sender faulty earlier u old held
+      → (size old < q) × (size signers < q) × (payload ≡ held → (v : ℕ) → member signers v ≡ true → member old v ≡ true)
+  kept-second earlier u caller signers payload old held other few a k =
+      let nonempty = size-some signers n sender (a .0) (a .1) in
+      (k .few (omega arith), few, λ e. absurd (other (sym e)))
+
   -- a bundle that is refused: 22 leaves a delivered record, 23 cannot be, and 24 leaves another payload with fewer than q signers
   kept-refused : (earlier : Trace Act) (u caller signers : ℕ) (payload : List ℕ) (r : Record) → RefusalCase q u (Receive signers payload) r
       → Allowed n q sender faulty earlier caller (Receive signers payload) → correct n faulty u ≡ true → RecordGenuine n q sender faulty earlier u r → SignedSoFar q earlier u r
       → BundleKept q signers payload r
-  kept-refused earlier u caller signers payload (Delivered old held) why a c k s = tt
+  kept-refused earlier u caller signers payload (Delivered old held note) why a c k s = tt
   kept-refused earlier u caller signers payload Empty (own-signature-unknown own apart) a c k s = absurd (s payload (a .2 u c own))
-  kept-refused earlier u caller signers payload (Held old held) (own-signature-unknown own apart) a c k s =
+  kept-refused earlier u caller signers payload (Held old held note) (own-signature-unknown own apart) a c k s =
       absurd (true≢false (sym (same-self held) ∙ rw (s .only payload (a .2 u c own)) at apart))
-  kept-refused earlier u caller signers payload (Held old held) (no-quorum other few) a c k s =
-      let nonempty = size-some signers n sender (a .0) (a .1) in
-      (k .few (omega arith), few, λ e. absurd (other (sym e)))
+  kept-refused earlier u caller signers payload (Held old held note) (third-payload other few known) a c k s =
+      kept-second earlier u caller signers payload old held other few a k
 
   -- a bundle that is received now
   kept-now : (earlier : Trace Act) (u caller signers : ℕ) (payload : List ℕ) (r : Record) (o : Outcome Update) → u ≡ caller
@@ -70,6 +78,8 @@ module _ (n q sender : ℕ) (faulty : NodeSet) (fits : n ≤ 64) where
       (few, omega arith, λ e v m. union-right old signers v m)
   kept-now earlier u caller signers payload r o own (completing enough) a c k s = tt
   kept-now earlier u caller signers payload r o own (replacing other absent enough) a c k s = tt
+  kept-now earlier u caller signers payload r o own (noting {old = old} {held = held} other few known) a c k s =
+      kept-second earlier u caller signers payload old held other few a k
 
   -- it holds after one act more, for the bundles received before and for the one received now
   kept-step : (earlier : Trace Act) (u caller : ℕ) (act : Act) (r : Record) (o : Outcome Update)

@@ -15,11 +15,11 @@ use Rattle.octets.proofs.Same.{same-says, same-self}
 use Rattle.signers.specs.Sets.{indicator}
 use Rattle.refusal.specs.Outcome.{Outcome, refused, done, after}
 use Rattle.protocol.specs.Update as protocol
-use Rattle.protocol.specs.Update.{Record, Empty, Held, Delivered, isEmpty, Update, delivered}
+use Rattle.protocol.specs.Update.{Note, Record, Empty, Held, Delivered, isEmpty, Update, delivered}
 use Rattle.protocol.specs.Trace as trace
 use Rattle.protocol.specs.Trace.{Trace, _then_calls_}
 use Rattle.protocol.specs.OneSlot.{Act, sends, sendsThis, delivers, deliversThis, broadcasts, currentRecord, ever, times}
-use Rattle.protocol.proofs.UpdateCases.{UpdateCase, refusing, broadcasting, signing, signing-and-delivering, joining, completing, replacing}
+use Rattle.protocol.proofs.UpdateCases.{UpdateCase, refusing, broadcasting, signing, signing-and-delivering, joining, completing, replacing, noting}
 use Rattle.protocol.proofs.TraceInduction.{resultDelivers, NodeView, trace-induction}
 
 -- the node has delivered nothing, and sent at most k bundles
@@ -39,8 +39,8 @@ pub record HasDelivered (q : ℕ) (trace : Trace Act) (u signers : ℕ) (payload
 -- what has happened in each state of the record
 abbrev pub SentSoFar : (q : ℕ) (trace : Trace Act) (u : ℕ) (r : Record) → Type 0
 SentSoFar q trace u Empty = NotDelivered q trace u 0
-SentSoFar q trace u (Held signers payload) = NotDelivered q trace u 1
-SentSoFar q trace u (Delivered signers payload) = HasDelivered q trace u signers payload
+SentSoFar q trace u (Held signers payload note) = NotDelivered q trace u 1
+SentSoFar q trace u (Delivered signers payload note) = HasDelivered q trace u signers payload
 
 module _ (q : ℕ) (earlier : Trace Act) (u caller : ℕ) (act : Act) (r : Record) where
   -- an update that delivers nothing
@@ -57,10 +57,10 @@ module _ (q : ℕ) (earlier : Trace Act) (u caller : ℕ) (act : Act) (r : Recor
       }
 
   -- the update that delivers
-  delivered-step : (signers : ℕ) (payload : List ℕ) (k : ℕ) → k ≤ 1
-      → NodeView q earlier u caller act r (done (record { answer = delivered; newRecord = Delivered signers payload }))
+  delivered-step : (signers : ℕ) (payload : List ℕ) (note : Note) (k : ℕ) → k ≤ 1
+      → NodeView q earlier u caller act r (done (record { answer = delivered; newRecord = Delivered signers payload note }))
       → NotDelivered q earlier u k → HasDelivered q (earlier then caller calls act) u signers payload
-  delivered-step signers payload k few view before =
+  delivered-step signers payload note k few view before =
       record {
         sent = view .sent signers payload ∙ rw (eq-eqb signers signers refl, same-self payload);
         delivered = view .delivered payload ∙ rw (same-self payload);
@@ -78,9 +78,9 @@ sent-refused : (q : ℕ) (earlier : Trace Act) (u caller : ℕ) (act : Act) (num
     → NodeView q earlier u caller act r (refused number) → SentSoFar q earlier u r → SentSoFar q (earlier then caller calls act) u r
 sent-refused q earlier u caller act number Empty view before =
     not-delivered-step q earlier u caller act Empty (refused number) 0 0 view (λ p. refl) refl (le-refl 0) before
-sent-refused q earlier u caller act number (Held signers payload) view before =
-    not-delivered-step q earlier u caller act (Held signers payload) (refused number) 1 1 view (λ p. refl) refl (le-refl 1) before
-sent-refused q earlier u caller act number (Delivered signers payload) view before =
+sent-refused q earlier u caller act number (Held signers payload note) view before =
+    not-delivered-step q earlier u caller act (Held signers payload note) (refused number) 1 1 view (λ p. refl) refl (le-refl 1) before
+sent-refused q earlier u caller act number (Delivered signers payload note) view before =
     record {
       sent = view .sent signers payload ∙ before .sent;
       delivered = view .delivered payload ∙ before .delivered;
@@ -100,12 +100,14 @@ sent-step q earlier u caller act r o (signing absent few) view before =
     not-delivered-step q earlier u caller act r o 0 1 view (λ p. refl) refl (le-refl 1) before
 sent-step q earlier u caller act r o (joining few) view before =
     not-delivered-step q earlier u caller act r o 1 1 view (λ p. refl) refl (le-refl 1) before
+sent-step q earlier u caller act r o (noting other few known) view before =
+    not-delivered-step q earlier u caller act r o 1 1 view (λ p. refl) refl (le-refl 1) before
 sent-step q earlier u caller act r o (signing-and-delivering absent enough) view before =
-    delivered-step q earlier u caller act r _ _ 0 (omega arith) view before
+    delivered-step q earlier u caller act r _ _ _ 0 (omega arith) view before
 sent-step q earlier u caller act r o (completing enough) view before =
-    delivered-step q earlier u caller act r _ _ 1 (le-refl 1) view before
+    delivered-step q earlier u caller act r _ _ _ 1 (le-refl 1) view before
 sent-step q earlier u caller act r o (replacing other absent enough) view before =
-    delivered-step q earlier u caller act r _ _ 1 (le-refl 1) view before
+    delivered-step q earlier u caller act r _ _ _ 1 (le-refl 1) view before
 
 -- so it holds of every node after every trace
 pub sent-so-far : (q : ℕ) (trace : Trace Act) (u : ℕ) → SentSoFar q trace u (currentRecord q trace u)
@@ -128,6 +130,7 @@ announced-step q earlier u caller act r o (signing-and-delivering absent enough)
 announced-step q earlier u caller act r o (joining few) view before = omega (arith, view .announcements, before)
 announced-step q earlier u caller act r o (completing enough) view before = omega (arith, view .announcements, before)
 announced-step q earlier u caller act r o (replacing other absent enough) view before = omega (arith, view .announcements, before)
+announced-step q earlier u caller act r o (noting other few known) view before = omega (arith, view .announcements, before)
 
 -- so it holds after every trace
 announced-so-far : (q : ℕ) (trace : Trace Act) (u : ℕ) → AnnouncedSoFar q trace u (currentRecord q trace u)
@@ -143,8 +146,8 @@ module _ (q : ℕ) (trace : Trace Act) (u : ℕ) where
     where
       go : (r : Record) → SentSoFar q trace u r → times q (delivers q) trace u ≤ 1
       go Empty t = omega (arith, t .deliveries)
-      go (Held signers payload) t = omega (arith, t .deliveries)
-      go (Delivered signers payload) t = t .deliveries
+      go (Held signers payload note) t = omega (arith, t .deliveries)
+      go (Delivered signers payload note) t = t .deliveries
 
   -- it sends at most two bundles,
   pub sends-at-most-twice : times q (sends q) trace u ≤ 2
@@ -152,8 +155,8 @@ module _ (q : ℕ) (trace : Trace Act) (u : ℕ) where
     where
       go : (r : Record) → SentSoFar q trace u r → times q (sends q) trace u ≤ 2
       go Empty t = omega (arith, t .sendings)
-      go (Held signers payload) t = omega (arith, t .sendings)
-      go (Delivered signers payload) t = t .sendings
+      go (Held signers payload note) t = omega (arith, t .sendings)
+      go (Delivered signers payload note) t = t .sendings
 
   -- and it does not broadcast twice
   pub broadcasts-once : times q (broadcasts q) trace u ≤ 1
@@ -161,23 +164,23 @@ module _ (q : ℕ) (trace : Trace Act) (u : ℕ) where
     where
       go : (r : Record) → AnnouncedSoFar q trace u r → times q (broadcasts q) trace u ≤ 1
       go Empty few = omega arith
-      go (Held signers payload) few = few
-      go (Delivered signers payload) few = few
+      go (Held signers payload note) few = few
+      go (Delivered signers payload note) few = few
 
   -- if it has delivered a payload, its record is delivered, with that payload
   pub delivered-record : (payload : List ℕ) → ever q (deliversThis q payload) trace u ≡ true
-      → (signers : ℕ) × (currentRecord q trace u ≡ Delivered signers payload) × (ever q (sendsThis q signers payload) trace u ≡ true)
+      → (signers : ℕ) × (note : Note) × (currentRecord q trace u ≡ Delivered signers payload note) × (ever q (sendsThis q signers payload) trace u ≡ true)
   delivered-record payload e = go (currentRecord q trace u) refl (sent-so-far q trace u)
     where
       go : (r : Record) → currentRecord q trace u ≡ r → SentSoFar q trace u r
-          → (signers : ℕ) × (currentRecord q trace u ≡ Delivered signers payload) × (ever q (sendsThis q signers payload) trace u ≡ true)
+          → (signers : ℕ) × (note : Note) × (currentRecord q trace u ≡ Delivered signers payload note) × (ever q (sendsThis q signers payload) trace u ≡ true)
       go Empty is t = absurd (true≢false (sym e ∙ t .none payload))
-      go (Held signers other) is t = absurd (true≢false (sym e ∙ t .none payload))
-      go (Delivered signers other) is t =
+      go (Held signers other note) is t = absurd (true≢false (sym e ∙ t .none payload))
+      go (Delivered signers other note) is t =
           let this : payload ≡ other = t .only payload e in
-          (signers, is ∙ ap (Delivered signers) (sym this), rw this (t .sent))
+          (signers, note, is ∙ ap (λ (x : List ℕ). Delivered signers x note) (sym this), rw this (t .sent))
 
   -- and back
-  pub record-delivered : (signers : ℕ) (payload : List ℕ) → currentRecord q trace u ≡ Delivered signers payload
+  pub record-delivered : (signers : ℕ) (payload : List ℕ) (note : Note) → currentRecord q trace u ≡ Delivered signers payload note
       → ever q (deliversThis q payload) trace u ≡ true
-  record-delivered signers payload is = (rw is at (sent-so-far q trace u)) .delivered
+  record-delivered signers payload note is = (rw is at (sent-so-far q trace u)) .delivered

@@ -16,7 +16,7 @@ use Rattle.protocol.specs.Trace as trace
 use Rattle.protocol.specs.Trace.{Trace, _then_calls_}
 use Rattle.protocol.specs.OneSlot.{Act, recordAfter, signs, currentRecord, ever}
 use Rattle.protocol.proofs.TraceLaws.{ever-grows}
-use Rattle.protocol.proofs.UpdateCases.{UpdateCase, refusing, broadcasting, signing, signing-and-delivering, joining, completing, replacing}
+use Rattle.protocol.proofs.UpdateCases.{UpdateCase, refusing, broadcasting, signing, signing-and-delivering, joining, completing, replacing, noting}
 use Rattle.protocol.proofs.TraceInduction.{resultSigns, NodeView, trace-induction}
 
 -- what is signed now is this payload
@@ -31,8 +31,8 @@ pub record SignedOnly (q : ℕ) (trace : Trace Act) (u : ℕ) (payload : List �
 -- what it has signed in each state of the record; what was delivered may be another payload
 abbrev pub SignedSoFar : (q : ℕ) (trace : Trace Act) (u : ℕ) (r : Record) → Type 0
 SignedSoFar q trace u Empty = (payload : List ℕ) → ever q (signs q payload) trace u ≡ true → ⊥
-SignedSoFar q trace u (Held signers payload) = SignedOnly q trace u payload
-SignedSoFar q trace u (Delivered signers payload) = (first : List ℕ) × SignedOnly q trace u first
+SignedSoFar q trace u (Held signers payload note) = SignedOnly q trace u payload
+SignedSoFar q trace u (Delivered signers payload note) = (first : List ℕ) × SignedOnly q trace u first
 
 module _ (q : ℕ) where
   module _ (earlier : Trace Act) (u caller : ℕ) (act : Act) (r : Record) (o : Outcome Update) (view : NodeView q earlier u caller act r o) (payload : List ℕ)
@@ -56,10 +56,10 @@ module _ (q : ℕ) where
   signed-refused : (earlier : Trace Act) (u caller : ℕ) (act : Act) (r : Record) (number : ℕ) → NodeView q earlier u caller act r (refused number)
       → SignedSoFar q earlier u r → SignedSoFar q (earlier then caller calls act) u r
   signed-refused earlier u caller act Empty number view before = λ payload e. before payload (sym (view .signed payload) ∙ e)
-  signed-refused earlier u caller act (Held signers payload) number view before =
-      signed-still earlier u caller act (Held signers payload) (refused number) view payload (λ other e. absurd (false≢true e)) before
-  signed-refused earlier u caller act (Delivered signers payload) number view (first, before) =
-      (first, signed-still earlier u caller act (Delivered signers payload) (refused number) view first (λ other e. absurd (false≢true e)) before)
+  signed-refused earlier u caller act (Held signers payload note) number view before =
+      signed-still earlier u caller act (Held signers payload note) (refused number) view payload (λ other e. absurd (false≢true e)) before
+  signed-refused earlier u caller act (Delivered signers payload note) number view (first, before) =
+      (first, signed-still earlier u caller act (Delivered signers payload note) (refused number) view first (λ other e. absurd (false≢true e)) before)
 
   -- It holds after one act more. Where a bundle replaces the payload, it has not the node's signature.
   signed-step : (earlier : Trace Act) (u caller : ℕ) (act : Act) (r : Record) (o : Outcome Update)
@@ -86,6 +86,8 @@ module _ (q : ℕ) where
     signed-still earlier u caller act r o view held
         (λ x e. absurd (true≢false (sym (and-eq-true-iff (same payload x) (member signers u) .0 e .1) ∙ absent))) before,
   )
+  signed-step earlier u caller act r o (noting {held = held} other few known) view room before =
+      signed-still earlier u caller act r o view held (λ x e. absurd (false≢true e)) before
 
   -- so it holds of every node after every trace
   pub signed-so-far : (trace : Trace Act) (u : ℕ) → u < 64 → SignedSoFar q trace u (currentRecord q trace u)
@@ -102,5 +104,5 @@ module _ (q : ℕ) where
     where
       go : (r : Record) → SignedSoFar q trace u r → first ≡ second
       go Empty none = absurd (none first a)
-      go (Held signers payload) s = s .only first a ∙ sym (s .only second b)
-      go (Delivered signers payload) (signed, s) = s .only first a ∙ sym (s .only second b)
+      go (Held signers payload note) s = s .only first a ∙ sym (s .only second b)
+      go (Delivered signers payload note) (signed, s) = s .only first a ∙ sym (s .only second b)

@@ -69,8 +69,8 @@ module _ (q : ℕ) (earlier : Trace Act) (u : ℕ) where
   broadcasts-empty : (act : Act) (r : Record) → broadcasts q u act r ≡ true → after (outcome q u act r) (λ result. isEmpty r) false ≡ true
   unfolding broadcasts outcome unless
   broadcasts-empty (Broadcast payload) Empty e = refl
-  broadcasts-empty (Broadcast payload) (Held signers held) e = e
-  broadcasts-empty (Broadcast payload) (Delivered signers held) e = e
+  broadcasts-empty (Broadcast payload) (Held signers held note) e = e
+  broadcasts-empty (Broadcast payload) (Delivered signers held note) e = e
   broadcasts-empty (Receive signers payload) r e = absurd (false≢true e)
 
   -- at the caller the outcome is that of the act

@@ -1,5 +1,5 @@
 -- R13.1: Algorithm 1 of the article, "Asynchronous Byzantine reliable broadcast with a message adversary", under the article's line numbers, for one slot
--- (sn, j) at process p_i; then where we differ (R13.2 to R13.4, R13.8), each difference a function; then what is claimed of them (R13.6, R13.7). `own` is i,
+-- (sn, j) at process p_i; then where we differ (R13.2 to R13.4, R13.8, R13.9), each difference a function; then what is claimed of them (R13.6, R13.7). `own` is i,
 -- `sender` is j, `m` the app-message, and `enough` line 9's test of how many signatures are saved. It is proved in proofs/Algorithm.antt.
 -- Assumes nothing.
 use mathlib.Core.Path.{_≡_}
@@ -11,7 +11,7 @@ use lib.Dec.{leb, ltb, eqb}
 use Rattle.octets.specs.Octets.{same}
 use Rattle.signers.specs.Signers.{member, insert, without, union, size}
 use Rattle.refusal.specs.Outcome.{Outcome, refused, done}
-use Rattle.protocol.specs.Update.{Record, Empty, Held, Delivered, signersOf, payloadOf, isEmpty, isDelivered, holds, holdsOther, Update, sends, delivers, announcedBy, update}
+use Rattle.protocol.specs.Update.{Record, Empty, Held, Delivered, signersOf, payloadOf, noteOf, isEmpty, isDelivered, holds, holdsOther, notedSigners, notes, notesOther, noted, Update, sends, delivers, announcedBy, update}
 
 -- ---- the article's algorithm
 
@@ -88,8 +88,8 @@ module _ (own : ℕ) (enough : ℕ → Bool) (sender : ℕ) (m : List ℕ) where
 
 -- ---- where we differ
 
--- R13.2: of the saved signatures those for one message stay, the others are dropped. So another message starts with none, and has to bring its quorum in one
--- bundle (R13.3).
+-- R13.2: of the saved signatures those for one message are counted, and the others are not. So another message starts with none, and has to bring its quorum
+-- in one bundle (R13.3). Those for a second message are noted apart (`apartOf`), and those for a third dropped.
 unfoldable pub keepOne : (m : List ℕ) (σ : State) → State
 keepOne m σ = record { saved = λ x. cond (same m x) (σ .saved x) 0; hasSigned = σ .hasSigned; hasDelivered = σ .hasDelivered }
 
@@ -126,6 +126,10 @@ StricterQuorumWaits = (own n t q sender : ℕ) (m : List ℕ) (σ : State) → n
 
 unfoldable pub stateOf : Record → State
 stateOf r = record { saved = λ x. cond (holds r x) (signersOf r) 0; hasSigned = not (isEmpty r); hasDelivered = isDelivered r }
+
+-- R13.9: what is noted of a second message is kept apart. It is no part of the state above, so that no line counts it.
+unfoldable pub apartOf : Record → State
+apartOf r = record { saved = λ x. cond (notes (noteOf r) x) (notedSigners (noteOf r)) 0; hasSigned = not (isEmpty r); hasDelivered = isDelivered r }
 
 unfoldable pub effectsOf : Update → List Effect
 effectsOf result =
@@ -168,22 +172,47 @@ module _ (own : ℕ) (enough : ℕ → Bool) (sender sigs : ℕ) (m : List ℕ) 
       ≡ cond (isEmpty r) (broadcast savedPassingOver m ∷ []) []
       ++ cond (enough (size savedPassingOver)) (broadcast savedPassingOver m ∷ deliver m ∷ []) []))
 
-  -- R13.1. Done: the slot was not delivered, and if the record held another message, the algorithm delivers this one now. Of its state what is saved for
-  -- this message stays (R13.2): it is the message held before, or the first, or the one delivered now. What is sent is what the algorithm sends, without
-  -- the repeated bundle (R13.4), and what is delivered is what it delivers. Refused (R13.6):
+  -- R13.1, done and not answered noted: if the record held another message, the algorithm delivers this one now. Of its state what is saved for this message is
+  -- counted (R13.2): it is the message held before, or the first, or the one delivered now. What is sent is what the algorithm sends, without the repeated
+  -- bundle (R13.4), and what is delivered is what it delivers. What it has saved for another message that was held is kept apart then, and else what was so.
+  abbrev pub Counts : Update → Type 0
+  Counts result =
+      (result .answer ≡ noted → ⊥)
+      × ((holdsOther r m && not (run .state .hasDelivered)) ≡ false)
+      × SameState (stateOf (result .newRecord)) (keepOne m (run .state))
+      × (effectsOf result ≡ sendOnce (run .effects))
+      × ((x : List ℕ) → apartOf (result .newRecord) .saved x ≡ cond (holdsOther r m) (keepOne (payloadOf r) (run .state)) (apartOf r) .saved x)
+
+  -- R13.9, noted: there are not enough for line 9. The algorithm saves the signatures for another message (line 4) and does nothing else. We do the same on
+  -- what is kept apart, and what is counted stays; nothing is sent.
+  abbrev pub Notes : Update → Type 0
+  Notes result =
+      (result .answer ≡ noted)
+      × (holdsOther r m ≡ true)
+      × (notesOther (noteOf r) m ≡ false)
+      × SameState (run .state) (save m sigs (stateOf r))
+      × (run .effects ≡ [])
+      × SameState (stateOf (result .newRecord)) (stateOf r)
+      × (effectsOf result ≡ [])
+      × SameState (apartOf (result .newRecord)) (save m sigs (apartOf r))
+
+  -- R13.1. Done: the slot was not delivered, and the bundle counts or is noted. Refused (R13.6):
   -- 22: line 3 fails, and the algorithm does nothing either.
   -- 23: nothing is delivered, and the bundle has a signature of p_i for m that p_i has not saved. The algorithm passes over that one, since it is not
   -- valid, and goes on with the others; we refuse the bundle. Where no signature is forged there is no such bundle (system's `NeverOwnUnknown`).
-  -- 24: there are not enough for line 9. The algorithm saves the signatures for another message (line 4) and does nothing else; we drop them.
+  -- 24: as where it is noted, the algorithm saves the signatures for another message (line 4) and does nothing else. A third message is noted already, and
+  -- we drop them.
   abbrev pub Follows : Outcome Update → Type 0
-  Follows (done result) =
-      (isDelivered r ≡ false)
-      × ((holdsOther r m && not (run .state .hasDelivered)) ≡ false)
-      × (SameState (stateOf (result .newRecord)) (keepOne m (run .state)) × (effectsOf result ≡ sendOnce (run .effects)))
+  Follows (done result) = (isDelivered r ≡ false) × (Counts result ⊎ Notes result)
   Follows (refused number) =
       ((number ≡ 22) × (stateOf r .hasDelivered ≡ true) × SameState (run .state) (stateOf r) × (run .effects ≡ []))
       ⊎ ((number ≡ 23) × (isDelivered r ≡ false) × (member sigs own ≡ true) × (member (stateOf r .saved m) own ≡ false) × PassesOver)
-      ⊎ ((number ≡ 24) × (isDelivered r ≡ false) × (holdsOther r m ≡ true) × SameState (keepOne (payloadOf r) (run .state)) (stateOf r) × (run .effects ≡ []))
+      ⊎ ((number ≡ 24)
+      × (isDelivered r ≡ false)
+      × (holdsOther r m ≡ true)
+      × (notesOther (noteOf r) m ≡ true)
+      × SameState (run .state) (save m sigs (stateOf r))
+      × (run .effects ≡ []))
 
 -- R13.6, of 8: where the sender's signature is missing line 3 fails, and the algorithm does nothing.
 abbrev pub UnsignedIgnored : Type 0
@@ -194,8 +223,8 @@ UnsignedIgnored =
 -- a held record has the node's own signature
 abbrev pub HasOwn : (own : ℕ) → Record → Type 0
 HasOwn own Empty = Unit
-HasOwn own (Held signers payload) = member signers own ≡ true
-HasOwn own (Delivered signers payload) = Unit
+HasOwn own (Held signers payload note) = member signers own ≡ true
+HasOwn own (Delivered signers payload note) = Unit
 
 -- R13.1: receiving follows the algorithm whose line 9 asks for the same quorum, for a bundle that has its sender's signature and a record that has the node's own
 -- if it is held.

@@ -2,33 +2,35 @@
 -- same differences as functions beside the article's lines. They are proved in proofs/Differences.antt.
 -- Assumes nothing.
 use mathlib.Core.Path.{_≡_}
+use mathlib.Core.Logic.{_⊎_}
 use mathlib.Core.Bool.{Bool, true, false, _&&_}
 use mathlib.Core.List.{List, [], _∷_}
 use Prim.Native.Nat.{ℕ, _≤_, _<_}
 use lib.Dec.{leb}
-use Rattle.signers.specs.Signers.{member, insert, size}
+use Rattle.signers.specs.Signers.{member, insert, union, size}
 use Rattle.refusal.specs.Outcome.{done}
-use Rattle.protocol.specs.Update.{Record, Empty, Held, Delivered, holdsOther, Update, delivered, delivers, update}
+use Rattle.protocol.specs.Update.{Note, Nothing, Noted, Record, Empty, Held, Delivered, signersOf, payloadOf, noteOf, holdsOther, notedSigners, withNote, Update, delivered, noted, delivers, update}
 use Rattle.protocol.specs.Trace.{Trace}
 use Rattle.protocol.specs.Algorithm.{broadcast, deliver, atLeast, onBundle, stateOf, effectsOf}
 use Rattle.protocol.specs.OneSlot.{Act, Broadcast, Receive, signs, deliversThis, currentRecord, ever}
 
 -- ---- one update
 
--- R8.4, R13.3: a record that holds a payload takes another one only from a single bundle that brings a quorum for it. That one is then delivered, with the
--- signers of this bundle and no others.
+-- R8.4, R8.16, R13.3: a record that holds a payload takes another one only from a single bundle that brings a quorum for it. That one is then delivered, with
+-- the signers of this bundle and no others, and what was held is noted. R8.14: with fewer signers it is noted, and the rest of the record stays.
 abbrev pub OtherNeedsQuorum : Type 0
 OtherNeedsQuorum =
     (own q signers : ℕ) (payload : List ℕ) (r : Record) (result : Update)
     → update own q signers payload r ≡ done result → holdsOther r payload ≡ true
-    → (q ≤ size signers) × (result ≡ record { answer = delivered; newRecord = Delivered signers payload })
+    → ((q ≤ size signers) × (result ≡ record { answer = delivered; newRecord = Delivered signers payload (Noted (signersOf r) (payloadOf r)) }))
+    ⊎ ((size signers < q) × (result ≡ record { answer = noted; newRecord = withNote (Noted (union (notedSigners (noteOf r)) signers) payload) r }))
 
 -- R13.4: a node that signs and delivers in one step sends one bundle. The algorithm sends that bundle twice, at lines 7 and 10.
 abbrev pub OneBundleForBoth : Type 0
 OneBundleForBoth =
     (own q sender signers : ℕ) (payload : List ℕ) (result : Update) → member signers sender ≡ true
     → update own q signers payload Empty ≡ done result → delivers (result .answer) ≡ true
-    → (result ≡ record { answer = delivered; newRecord = Delivered (insert signers own) payload })
+    → (result ≡ record { answer = delivered; newRecord = Delivered (insert signers own) payload Nothing })
     × (effectsOf result ≡ broadcast (insert signers own) payload ∷ deliver payload ∷ [])
     × (onBundle own (atLeast q) sender payload signers (stateOf Empty) .effects
     ≡ broadcast (insert signers own) payload ∷ broadcast (insert signers own) payload ∷ deliver payload ∷ [])
@@ -50,8 +52,8 @@ module _ (q : ℕ) where
 pub record HoldsSigned (q : ℕ) (list : Trace Act) (u : ℕ) (r : Record) : Type 0 where
   pub signs-one : (first second : List ℕ) → ever q (signs q first) list u ≡ true → ever q (signs q second) list u ≡ true → first ≡ second
   pub empty : r ≡ Empty → (payload : List ℕ) → ever q (signs q payload) list u ≡ false
-  pub held : (signers : ℕ) (payload : List ℕ) → r ≡ Held signers payload → ever q (signs q payload) list u ≡ true
-  pub delivered : (signers : ℕ) (payload : List ℕ) → r ≡ Delivered signers payload → (signed : List ℕ) × (ever q (signs q signed) list u ≡ true)
+  pub held : (signers : ℕ) (payload : List ℕ) (note : Note) → r ≡ Held signers payload note → ever q (signs q payload) list u ≡ true
+  pub delivered : (signers : ℕ) (payload : List ℕ) (note : Note) → r ≡ Delivered signers payload note → (signed : List ℕ) × (ever q (signs q signed) list u ≡ true)
 
 -- On every trace, also where signatures are forged: a node below 64 has a bit.
 abbrev pub OnePayloadHeld : Type 0

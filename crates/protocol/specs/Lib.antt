@@ -3,5 +3,6 @@ pub mod Update
 pub mod Algorithm
 pub mod Trace
 pub mod OneSlot
+pub mod Notes
 pub mod Differences
 pub mod Tight

@@ -1,103 +1,153 @@
--- The 32 bytes of a record that is well-formed on values: the record is read back from them, they are well-formed, and they are blank for an empty
+-- The 64 bytes of a record that is well-formed on values: the record is read back from them, they are well-formed, and they are blank for an empty
 -- record alone. From the definitions of specs/Record.antt and the laws of numbers and their bytes.
 -- Assumes nothing.
-use mathlib.Core.Path.{_≡_, refl, ap, ap₂, _∙_}
+use mathlib.Core.Path.{_≡_, refl, sym, ap, ap₂, _∙_}
 use mathlib.Core.Bool.{Bool, true, false, cond, true≢false, and-eq-true-iff}
-use mathlib.Core.List.{List}
+use mathlib.Core.List.{List, _++_}
 use Prim.Native.Nat.{ℕ, _≤_, _<_, _^_}
-use native.Mathlib.Nat.{lt-of-lt-of-le}
+use native.Mathlib.Nat.{le-of-eq, add-zero}
 use native.Mathlib.Omega.{arith}
 use lib.Dec.{ltb, eqb}
-use lib.ListN.{length, replicate}
-use lib.Pow.{pow-pos, pow-mono}
-use lib.Seq.{take-all}
+use lib.ListN.{length, take, drop, replicate, length-append}
+use lib.Pow.{pow-pos}
+use lib.Seq.{take-all, take-append-seam, drop-append-add}
 use borrow.Author.Tests.{leb-true, le-leb}
 use Rattle.octets.specs.Octets.{same, blank, part, bytesOf, number}
 use Rattle.octets.proofs.Numbers.{number-bytesOf, length-part}
 use Rattle.octets.proofs.Same.{blank-zeros}
 use Rattle.payload.specs.Payload.{payloadSize as payloadSize}
 use Rattle.signers.specs.Signers.{within, member, size}
-use Rattle.signers.proofs.Members.{within-lt, lt-within}
+use Rattle.signers.proofs.Members.{lt-within}
 use Rattle.config.specs.declared.Config.{Config}
 use Rattle.config.specs.Config.{quorum, recordSize}
-use Rattle.protocol.specs.Update.{Record, Empty, Held, Delivered, signersOf, payloadOf, isEmpty}
-use Rattle.protocol.proofs.WellFormed.{Bundled, WellFormed}
-use Rattle.record.specs.Record.{layout, encoding, payloadAt, stateField, signersField, payloadField, decoded, stateAllows, wellFormed}
+use Rattle.protocol.specs.Update.{Note, Record, Empty, Held, Delivered, signersOf, payloadOf, noteOf, isEmpty}
+use Rattle.note.specs.Note as note
+use Rattle.note.proofs.Encoding as note-laws
+use Rattle.protocol.proofs.WellFormed.{Bundled, NoteWellFormed, WellFormed}
+use Rattle.record.specs.Record.{layout, encoding, payloadAt, noteAt, stateField, signersField, payloadField, noteField, decoded, stateAllows, wellFormed}
 
--- a record's bytes are 32, and its fields stand where they were put
-module _ (state signers : ℕ) (payload : List ℕ) where
-  layout-length : length payload ≡ payloadSize → length (layout state signers payload) ≡ recordSize
+-- a record's bytes are 64, and its fields stand where they were put
+module _ (state signers : ℕ) (payload aside : List ℕ) where
+  layout-length : length payload ≡ payloadSize → length aside ≡ note.noteSize → length (layout state signers payload aside) ≡ recordSize
   unfolding layout bytesOf
-  layout-length l = omega arith
+  layout-length l k = let both = length-append payload aside in omega arith
 
-  layout-signers : signers < 2 ^ 64 → signersField (layout state signers payload) ≡ signers
+  layout-signers : signers < 2 ^ 64 → signersField (layout state signers payload aside) ≡ signers
   unfolding layout bytesOf
   layout-signers h = number-bytesOf 8 signers h
 
-  layout-payload : length payload ≡ payloadSize → payloadField (layout state signers payload) ≡ payload
+  layout-payload : length payload ≡ payloadSize → payloadField (layout state signers payload aside) ≡ payload
   unfolding layout bytesOf
-  layout-payload l = take-all payloadSize payload (omega arith)
+  layout-payload l = ap (λ (k : ℕ). take k (payload ++ aside)) (sym l) ∙ take-append-seam payload aside
 
-  layout-reserved : blank (part 1 7 (layout state signers payload)) ≡ true
+  layout-note : length payload ≡ payloadSize → length aside ≡ note.noteSize → noteField (layout state signers payload aside) ≡ aside
+  unfolding layout bytesOf
+  layout-note l k =
+      ap (λ (i : ℕ). take note.noteSize (drop i (payload ++ aside))) (sym l ∙ sym (add-zero (length payload)))
+      ∙ ap (take note.noteSize) (drop-append-add payload aside 0)
+      ∙ take-all note.noteSize aside (le-of-eq k)
+
+  layout-reserved : blank (part 1 7 (layout state signers payload aside)) ≡ true
   unfolding layout bytesOf same
   layout-reserved = refl
 
-  layout-state : ltb state 3 ≡ true → ltb (stateField (layout state signers payload)) 3 ≡ true
+  layout-state : ltb state 3 ≡ true → ltb (stateField (layout state signers payload aside)) 3 ≡ true
   unfolding layout
   layout-state e = e
 
--- known signers fit a word
-pub bundled-fits : (n sender signers : ℕ) (payload : List ℕ) → n ≤ 64 → Bundled n sender signers payload → signers < 2 ^ 64
-bundled-fits n sender signers payload most b = lt-of-lt-of-le (within-lt signers n (b .known)) (pow-mono most)
-
 -- what is asked of well-formed bytes, one by one
 says-well-formed : (config : Config) (sender : ℕ) (bytes : List ℕ) → ltb (stateField bytes) 3 ≡ true → blank (part 1 7 bytes) ≡ true
-    → within (signersField bytes) (config .n) ≡ true → stateAllows config sender bytes (decoded bytes) ≡ true → wellFormed config sender bytes ≡ true
+    → within (signersField bytes) (config .n) ≡ true → stateAllows config sender bytes (decoded bytes) ≡ true
+    → note.wellFormed config sender (payloadField bytes) (noteField bytes) ≡ true → wellFormed config sender bytes ≡ true
 unfolding wellFormed
-says-well-formed config sender bytes a b c d = and-eq-true-iff _ _ .1 (a, and-eq-true-iff _ _ .1 (b, and-eq-true-iff _ _ .1 (c, d)))
+says-well-formed config sender bytes a b c d e =
+    and-eq-true-iff _ _ .1 (a, and-eq-true-iff _ _ .1 (b, and-eq-true-iff _ _ .1 (c, and-eq-true-iff _ _ .1 (d, e))))
 
-module _ (n sender q own : ℕ) (most : n ≤ 64) where
-  -- the record is read back from its bytes
-  pub decoded-encoding : (r : Record) → WellFormed n sender q own r → decoded (encoding r) ≡ r
-  unfolding decoded encoding layout
-  decoded-encoding Empty h = refl
-  decoded-encoding (Held signers payload) h =
-      ap₂ Held (layout-signers 1 signers payload (bundled-fits n sender signers payload most (h .0))) (layout-payload 1 signers payload (h .0 .whole))
-  decoded-encoding (Delivered signers payload) h =
-      ap₂ Delivered (layout-signers 2 signers payload (bundled-fits n sender signers payload most (h .0))) (layout-payload 2 signers payload (h .0 .whole))
+module _ (n sender q own : ℕ) where
+  -- a record's bytes are 64
+  pub encoding-length : (r : Record) → WellFormed n sender q own r → length (encoding r) ≡ recordSize
+  unfolding encoding
+  encoding-length Empty h = refl
+  encoding-length (Held signers payload aside) h =
+      layout-length 1 signers payload (note.encoding aside) (h .0 .whole) (note-laws.encoding-length n sender payload aside (h .2))
+  encoding-length (Delivered signers payload aside) h =
+      layout-length 2 signers payload (note.encoding aside) (h .0 .whole) (note-laws.encoding-length n sender payload aside (h .2))
 
--- a record's bytes are 32, and they are blank for an empty record alone
-pub encoding-length : (r : Record) → (isEmpty r ≡ false → length (payloadOf r) ≡ payloadSize) → length (encoding r) ≡ recordSize
-unfolding encoding
-encoding-length Empty h = refl
-encoding-length (Held signers payload) h = layout-length 1 signers payload (h refl)
-encoding-length (Delivered signers payload) h = layout-length 2 signers payload (h refl)
+  module _ (most : n ≤ 64) where
+    -- the fields of its bytes are the record's
+    fields : (state signers : ℕ) (payload : List ℕ) (aside : Note) → Bundled n sender signers payload → NoteWellFormed n sender payload aside
+        → (signersField (layout state signers payload (note.encoding aside)) ≡ signers)
+        × (payloadField (layout state signers payload (note.encoding aside)) ≡ payload)
+        × (note.decoded (noteField (layout state signers payload (note.encoding aside))) ≡ aside)
+    fields state signers payload aside bundled fine = (
+      layout-signers state signers payload (note.encoding aside) (note-laws.bundled-fits n sender signers payload most bundled),
+      layout-payload state signers payload (note.encoding aside) (bundled .whole),
+      ap note.decoded (layout-note state signers payload (note.encoding aside) (bundled .whole) (note-laws.encoding-length n sender payload aside fine))
+          ∙ note-laws.decoded-encoding n sender payload most aside fine,
+    )
+
+    -- so the record is read back from them
+    pub decoded-encoding : (r : Record) → WellFormed n sender q own r → decoded (encoding r) ≡ r
+    unfolding decoded encoding layout
+    decoded-encoding Empty h = refl
+    decoded-encoding (Held signers payload aside) h =
+        let (a, b, c) = fields 1 signers payload aside (h .0) (h .2) in
+        ap₂ (λ (x : ℕ) (y : List ℕ). Held x y (note.decoded (noteField (layout 1 signers payload (note.encoding aside))))) a b ∙ ap (Held signers payload) c
+    decoded-encoding (Delivered signers payload aside) h =
+        let (a, b, c) = fields 2 signers payload aside (h .0) (h .2) in
+        ap₂ (λ (x : ℕ) (y : List ℕ). Delivered x y (note.decoded (noteField (layout 2 signers payload (note.encoding aside))))) a b ∙ ap (Delivered signers payload) c
+
+    pub encoding-fields : (r : Record) → isEmpty r ≡ false → WellFormed n sender q own r
+        → (signersField (encoding r) ≡ signersOf r) × (payloadField (encoding r) ≡ payloadOf r) × (note.decoded (noteField (encoding r)) ≡ noteOf r)
+    unfolding encoding
+    encoding-fields Empty e h = absurd (true≢false e)
+    encoding-fields (Held signers payload aside) e h = fields 1 signers payload aside (h .0) (h .2)
+    encoding-fields (Delivered signers payload aside) e h = fields 2 signers payload aside (h .0) (h .2)
 
 -- zeros are the bytes of an empty record
 pub empty-encoding : replicate recordSize 0 ≡ encoding Empty
 unfolding encoding
 empty-encoding = refl
 
+-- and no other record's bytes are blank
 pub blank-encoding : (r : Record) → blank (encoding r) ≡ isEmpty r
 unfolding encoding layout same
 blank-encoding Empty = refl
-blank-encoding (Held signers payload) = refl
-blank-encoding (Delivered signers payload) = refl
+blank-encoding (Held signers payload aside) = refl
+blank-encoding (Delivered signers payload aside) = refl
 
 -- they are well-formed for the configuration and the sender by which the record is
-pub encoding-well-formed : (config : Config) (sender : ℕ) → config .n ≤ 64 → (r : Record) → WellFormed (config .n) sender (quorum config) (config .own) r → wellFormed config sender (encoding r) ≡ true
-unfolding encoding stateAllows number decoded
-encoding-well-formed config sender most Empty h = says-well-formed config sender (encoding Empty) refl (blank-zeros 7) (lt-within 0 (config .n) (pow-pos (config .n))) (blank-zeros 32)
-encoding-well-formed config sender most (Held signers payload) h =
-    says-well-formed config sender (layout 1 signers payload) (layout-state 1 signers payload refl) (layout-reserved 1 signers payload)
-    (ap (λ (x : ℕ). within x (config .n)) (layout-signers 1 signers payload (bundled-fits (config .n) sender signers payload most (h .0))) ∙ h .0 .known)
-    (ap (stateAllows config sender (layout 1 signers payload)) (decoded-encoding (config .n) sender (quorum config) (config .own) most (Held signers payload) h)
-    ∙ and-eq-true-iff _ _ .1 (h .0 .authentic, h .1))
-encoding-well-formed config sender most (Delivered signers payload) h =
-    says-well-formed config sender (layout 2 signers payload) (layout-state 2 signers payload refl) (layout-reserved 2 signers payload)
-    (ap (λ (x : ℕ). within x (config .n)) (layout-signers 2 signers payload (bundled-fits (config .n) sender signers payload most (h .0))) ∙ h .0 .known)
-    (ap (stateAllows config sender (layout 2 signers payload)) (decoded-encoding (config .n) sender (quorum config) (config .own) most (Delivered signers payload) h)
-    ∙ and-eq-true-iff _ _ .1 (h .0 .authentic, le-leb _ _ (h .1)))
+module _ (config : Config) (sender : ℕ) (most : config .n ≤ 64) where
+  some-well-formed : (state signers : ℕ) (payload : List ℕ) (aside : Note) → ltb state 3 ≡ true
+      → Bundled (config .n) sender signers payload → NoteWellFormed (config .n) sender payload aside
+      → stateAllows config sender (layout state signers payload (note.encoding aside)) (decoded (layout state signers payload (note.encoding aside))) ≡ true
+      → wellFormed config sender (layout state signers payload (note.encoding aside)) ≡ true
+  some-well-formed state signers payload aside known bundled fine allows =
+      let bytes : List ℕ = layout state signers payload (note.encoding aside) in
+      let whole = note-laws.encoding-length (config .n) sender payload aside fine in
+      says-well-formed config sender bytes (layout-state state signers payload (note.encoding aside) known) (layout-reserved state signers payload (note.encoding aside))
+      (ap (λ (x : ℕ). within x (config .n)) (layout-signers state signers payload (note.encoding aside) (note-laws.bundled-fits (config .n) sender signers payload most bundled))
+      ∙ bundled .known)
+      allows
+      (ap₂ (note.wellFormed config sender) (layout-payload state signers payload (note.encoding aside) (bundled .whole))
+      (layout-note state signers payload (note.encoding aside) (bundled .whole) whole)
+      ∙ note-laws.encoding-well-formed config sender payload most aside fine)
+
+  pub encoding-well-formed : (r : Record) → WellFormed (config .n) sender (quorum config) (config .own) r → wellFormed config sender (encoding r) ≡ true
+  unfolding encoding stateAllows number decoded
+  encoding-well-formed Empty h =
+      says-well-formed config sender (encoding Empty) refl (blank-zeros 7) (lt-within 0 (config .n) (pow-pos (config .n))) (blank-zeros 64)
+      (note-laws.blank-well-formed config sender (payloadField (encoding Empty)) (noteField (encoding Empty)) refl (blank-zeros note.noteSize))
+  encoding-well-formed (Held signers payload aside) h =
+      some-well-formed 1 signers payload aside refl (h .0) (h .2)
+      (ap (stateAllows config sender (encoding (Held signers payload aside)))
+      (decoded-encoding (config .n) sender (quorum config) (config .own) most (Held signers payload aside) h)
+      ∙ and-eq-true-iff _ _ .1 (h .0 .authentic, h .1))
+  encoding-well-formed (Delivered signers payload aside) h =
+      some-well-formed 2 signers payload aside refl (h .0) (h .2)
+      (ap (stateAllows config sender (encoding (Delivered signers payload aside)))
+      (decoded-encoding (config .n) sender (quorum config) (config .own) most (Delivered signers payload aside) h)
+      ∙ and-eq-true-iff _ _ .1 (h .0 .authentic, le-leb _ _ (h .1)))
 
 -- and well-formed bytes write a record that is well-formed on values
 pub decoded-well-formed : (config : Config) (sender : ℕ) (bytes : List ℕ) → length bytes ≡ recordSize → wellFormed config sender bytes ≡ true
@@ -105,35 +155,27 @@ pub decoded-well-formed : (config : Config) (sender : ℕ) (bytes : List ℕ) �
 unfolding wellFormed decoded stateAllows
 decoded-well-formed config sender bytes l e =
     let (state, rest) = and-eq-true-iff (ltb (stateField bytes) 3) _ .0 e in
-    let (zeros, last) = and-eq-true-iff (blank (part 1 7 bytes)) _ .0 rest in
-    let (known, fit) = and-eq-true-iff (within (signersField bytes) (config .n)) _ .0 last in
-    go known (eqb (stateField bytes) 0) (eqb (stateField bytes) 1) fit
+    let (zeros, others) = and-eq-true-iff (blank (part 1 7 bytes)) _ .0 rest in
+    let (known, last) = and-eq-true-iff (within (signersField bytes) (config .n)) _ .0 others in
+    let (fit, noted) = and-eq-true-iff (stateAllows config sender bytes (decoded bytes)) _ .0 last in
+    go known (note-laws.decoded-well-formed config sender (payloadField bytes) (noteField bytes) (length-part bytes noteAt note.noteSize (omega arith)) noted)
+    (eqb (stateField bytes) 0) (eqb (stateField bytes) 1) fit
   where
     whole : length (payloadField bytes) ≡ payloadSize
     whole = length-part bytes payloadAt payloadSize (omega arith)
 
-    go : within (signersField bytes) (config .n) ≡ true → (a b : Bool)
-        → stateAllows config sender bytes (cond a Empty (cond b (Held (signersField bytes) (payloadField bytes)) (Delivered (signersField bytes) (payloadField bytes)))) ≡ true
-        → WellFormed (config .n) sender (quorum config) (config .own) (cond a Empty (cond b (Held (signersField bytes) (payloadField bytes)) (Delivered (signersField bytes) (payloadField bytes))))
-    go known true b f = tt
-    go known false true f =
+    aside : Note
+    aside = note.decoded (noteField bytes)
+
+    go : within (signersField bytes) (config .n) ≡ true → NoteWellFormed (config .n) sender (payloadField bytes) (note.decoded (noteField bytes)) → (a b : Bool)
+        → stateAllows config sender bytes
+        (cond a Empty (cond b (Held (signersField bytes) (payloadField bytes) aside) (Delivered (signersField bytes) (payloadField bytes) aside))) ≡ true
+        → WellFormed (config .n) sender (quorum config) (config .own)
+        (cond a Empty (cond b (Held (signersField bytes) (payloadField bytes) aside) (Delivered (signersField bytes) (payloadField bytes) aside)))
+    go known fine true b f = tt
+    go known fine false true f =
         let (signed, ours) = and-eq-true-iff (member (signersField bytes) sender) _ .0 f in
-        (record { known = known; authentic = signed; whole = whole }, ours)
-    go known false false f =
+        (record { known = known; authentic = signed; whole = whole }, ours, fine)
+    go known fine false false f =
         let (signed, enough) = and-eq-true-iff (member (signersField bytes) sender) _ .0 f in
-        (record { known = known; authentic = signed; whole = whole }, leb-true (quorum config) (size (signersField bytes)) enough)
-
--- the fields of a record's bytes are the record's
-pub held-fields : (signers : ℕ) (payload : List ℕ) → signers < 2 ^ 64 → length payload ≡ payloadSize
-    → (signersField (encoding (Held signers payload)) ≡ signers) × (payloadField (encoding (Held signers payload)) ≡ payload)
-unfolding encoding
-held-fields signers payload h l = (layout-signers 1 signers payload h, layout-payload 1 signers payload l)
-
-pub encoding-fields : (n sender q own : ℕ) → n ≤ 64 → (r : Record) → isEmpty r ≡ false → WellFormed n sender q own r
-    → (signersField (encoding r) ≡ signersOf r) × (payloadField (encoding r) ≡ payloadOf r)
-unfolding encoding
-encoding-fields n sender q own most Empty e h = absurd (true≢false e)
-encoding-fields n sender q own most (Held signers payload) e h =
-    (layout-signers 1 signers payload (bundled-fits n sender signers payload most (h .0)), layout-payload 1 signers payload (h .0 .whole))
-encoding-fields n sender q own most (Delivered signers payload) e h =
-    (layout-signers 2 signers payload (bundled-fits n sender signers payload most (h .0)), layout-payload 2 signers payload (h .0 .whole))
+        (record { known = known; authentic = signed; whole = whole }, leb-true (quorum config) (size (signersField bytes)) enough, fine)

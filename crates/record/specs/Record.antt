@@ -1,5 +1,5 @@
--- RULES section 4: the 32 bytes in which a node keeps what it has of a slot, and when they are well-formed, called sound in the rules; and what a bundle does
--- to them.
+-- RULES section 4: the 64 bytes in which a node keeps what it has of a slot, and when they are well-formed, called sound in the rules; and what a bundle does
+-- to them. Their second half, what is noted, is in note's specs/Note.antt.
 -- Assumes nothing.
 use mathlib.Core.Bool.{Bool, not, cond, _&&_}
 use mathlib.Core.List.{List, [], _∷_, _++_}
@@ -14,26 +14,30 @@ use Rattle.refusal.specs.Outcome.{Outcome, refused, done, _if_, checked, _and-t
 use Rattle.config.specs.declared.Config.{Config}
 use Rattle.config.specs.Config.{quorum, recordSize}
 use Rattle.protocol.specs.Update as protocol
-use Rattle.protocol.specs.Update.{Answer, kept, signed, delivered, Update, Empty, Held, Delivered}
+use Rattle.protocol.specs.Update.{Answer, kept, signed, delivered, noted, Update, Empty, Held, Delivered}
+use Rattle.note.specs.Note as note
 use Rattle.record.specs.declared.Record.{Record}
 use Rattle.record.specs.declared.Received as Received
 
--- R4.1: the state in one byte, seven zero bytes, the signers in eight, and the payload
-unfoldable pub layout : (state signers : ℕ) (payload : List ℕ) → List ℕ
-layout state signers payload = state ∷ (replicate 7 0 ++ (bytesOf 8 signers ++ payload))
+-- R4.1: the state in one byte, seven zero bytes, the signers in eight, the payload, and what is noted
+unfoldable pub layout : (state signers : ℕ) (payload aside : List ℕ) → List ℕ
+layout state signers payload aside = state ∷ (replicate 7 0 ++ (bytesOf 8 signers ++ (payload ++ aside)))
 
 -- the bytes of a record; those of an empty one are all zero (R4.5)
 unfoldable pub encoding : protocol.Record → List ℕ
 encoding Empty = replicate recordSize 0
-encoding (Held signers payload) = layout 1 signers payload
-encoding (Delivered signers payload) = layout 2 signers payload
+encoding (Held signers payload aside) = layout 1 signers payload (note.encoding aside)
+encoding (Delivered signers payload aside) = layout 2 signers payload (note.encoding aside)
 
--- where the signers start, and the payload after them
+-- where the signers start, the payload after them, and what is noted after that
 abbrev pub signersAt : ℕ
 signersAt = 8
 
 abbrev pub payloadAt : ℕ
 payloadAt = 16
+
+abbrev pub noteAt : ℕ
+noteAt = 32
 
 abbrev pub stateField : List ℕ → ℕ
 stateField bytes = getD bytes 0 0
@@ -44,34 +48,42 @@ signersField bytes = number (part signersAt 8 bytes)
 abbrev pub payloadField : List ℕ → List ℕ
 payloadField bytes = part payloadAt payload.payloadSize bytes
 
+abbrev pub noteField : List ℕ → List ℕ
+noteField bytes = part noteAt note.noteSize bytes
+
 -- the record that well-formed bytes write
 unfoldable pub decoded : List ℕ → protocol.Record
 decoded bytes =
     cond (eqb (stateField bytes) 0) Empty
-    (cond (eqb (stateField bytes) 1) (Held (signersField bytes) (payloadField bytes)) (Delivered (signersField bytes) (payloadField bytes)))
+    (cond (eqb (stateField bytes) 1)
+    (Held (signersField bytes) (payloadField bytes) (note.decoded (noteField bytes)))
+    (Delivered (signersField bytes) (payloadField bytes) (note.decoded (noteField bytes))))
 
 -- R4.4, what each state asks for: empty, that every byte is zero; held, that the sender and we have signed; delivered, that the sender and a quorum have
 unfoldable pub stateAllows : (config : Config) (sender : ℕ) (bytes : List ℕ) → protocol.Record → Bool
 stateAllows config sender bytes Empty = blank bytes
-stateAllows config sender bytes (Held signers payload) = member signers sender && member signers (config .own)
-stateAllows config sender bytes (Delivered signers payload) = member signers sender && leb (quorum config) (size signers)
+stateAllows config sender bytes (Held signers payload aside) = member signers sender && member signers (config .own)
+stateAllows config sender bytes (Delivered signers payload aside) = member signers sender && leb (quorum config) (size signers)
 
--- R4.4: the state is one of the three, the seven bytes after it are zero, only nodes have signed, and what the state asks for is so
+-- R4.4: the state is one of the three, the seven bytes after it are zero, only nodes have signed, what the state asks for is so, and what is noted is
+-- well-formed beside the payload (R4.8)
 unfoldable pub wellFormed : (config : Config) (sender : ℕ) (bytes : List ℕ) → Bool
 wellFormed config sender bytes =
     ltb (stateField bytes) 3
-    && (blank (part 1 7 bytes) && (within (signersField bytes) (config .n) && stateAllows config sender bytes (decoded bytes)))
+    && (blank (part 1 7 bytes)
+    && (within (signersField bytes) (config .n)
+    && (stateAllows config sender bytes (decoded bytes) && note.wellFormed config sender (payloadField bytes) (noteField bytes))))
 
--- ---- as a program has it: two words and a payload
+-- ---- as a program has it: two words, a payload and a note
 
 unfoldable pub bytes : Record → List ℕ
-bytes r = bytesOf 8 (r .head) ++ (bytesOf 8 (r .signers) ++ payload.bytes (r .payload))
+bytes r = bytesOf 8 (r .head) ++ (bytesOf 8 (r .signers) ++ (payload.bytes (r .payload) ++ note.bytes (r .note)))
 
 -- the bytes of the record that is loaded from a slice: the slice's own, and those of an empty record if it has another length
 unfoldable pub loaded : List ℕ → List ℕ
 loaded xs = cond (eqb (length xs) recordSize) xs (replicate recordSize 0)
 
--- 21, and then R8.2 to R8.6: receiving a bundle with these signers and this payload on the bytes of a record, well-formed or not
+-- 21, and then R8.2 to R8.6, R8.14 and R8.16: receiving a bundle with these signers and this payload on the bytes of a record, well-formed or not
 unfoldable pub received : (config : Config) (sender signers : ℕ) (payload bytes : List ℕ) → Outcome Update
 received config sender signers payload bytes =
     checked ((21 if not (wellFormed config sender bytes)) ∷ []) and-then λ _. protocol.update (config .own) (quorum config) signers payload (decoded bytes)
@@ -81,6 +93,7 @@ abbrev pub receivedOf : Received.Received → Outcome (Answer × List ℕ)
 receivedOf (Received.the-variants.Kept r) = done (kept, bytes r)
 receivedOf (Received.the-variants.Signed r) = done (signed, bytes r)
 receivedOf (Received.the-variants.Delivered r) = done (delivered, bytes r)
+receivedOf (Received.the-variants.Noted r) = done (noted, bytes r)
 receivedOf (Received.the-variants.Refused reason) = refused (numberOf reason)
 
 -- an update, its record by its bytes

@@ -1,8 +1,10 @@
-// What a node keeps of a slot, as the 32 bytes of a record (R4.1) and as a value.
+// What a node keeps of a slot, as the 64 bytes of a record (R4.1) and as a value.
 //
 // A record is loaded by value, a bundle is received on the value, and the result is stored again. Beside
 // these only showing looks at a record's bytes, and only at its payload.
+use block::Block;
 use config::Config;
+use note::Note;
 use payload::Payload;
 use refusal::Refusal;
 ghost use mathlib.Core.Path.{_≡_};
@@ -11,26 +13,29 @@ ghost use lib.Dec.{eqb};
 ghost use lib.ListN.{length};
 ghost use Rattle.octets.specs.Octets.{blank, same};
 ghost use Rattle.payload.specs.Payload.{bytes as payloadBytes};
+ghost use Rattle.block.specs.Block.{bytes as blockBytes};
+ghost use Rattle.note.specs.Note.{bytes as noteBytes, decoded as decodedNote};
 ghost use Rattle.config.specs.Config.{quorum, recordSize};
-ghost use Rattle.protocol.specs.Update.{update as updateOf, Empty, Held, Delivered as DeliveredOf, isDelivered};
-ghost use Rattle.record.specs.Record.{bytes as bytesIn, loaded, encoding, wellFormed, decoded, received, receivedOf, encodedUpdate};
-ghost use Rattle.record.specs.Inner.{HasState, wellFormedBy};
+ghost use Rattle.protocol.specs.Update.{update as updateOf, Nothing, Empty, Held, isDelivered};
+ghost use Rattle.record.specs.Record.{bytes as bytesIn, loaded, layout, encoding, wellFormed, decoded, received, receivedOf, encodedUpdate};
+ghost use Rattle.record.specs.Inner.{HasState, NoteReads, halfWellFormed, heldBlock};
 
 // The first word of a record: its state in the highest byte, the others zero.
 const HELD: u64 = 0x100_0000_0000_0000;
 
 const DELIVERED: u64 = 0x200_0000_0000_0000;
 
-// Where in a record its signers start, and its payload, with which it ends.
-const SIGNERS_AT: usize = 8;
-
+// Where in a record its payload starts, and what it notes, with which it ends.
 pub const PAYLOAD_AT: usize = 16;
+
+const NOTE_AT: usize = 32;
 
 pub struct Record {
     // the state's byte and seven that are zero
     pub head: u64,
     pub signers: u64,
     pub payload: Payload,
+    pub note: Note,
 }
 
 // What a bundle does to a record, and the record afterwards.
@@ -38,10 +43,11 @@ pub enum Received {
     Kept(Record),
     Signed(Record),
     Delivered(Record),
+    Noted(Record),
     Refused(Refusal),
 }
 
-// The record in a slice of 32 bytes; of a slice of another length, an empty one.
+// The record in a slice of 64 bytes; of a slice of another length, an empty one.
 pub fn load(slice: &[u8]) -> Record
     ensures { λ r. ⌜ bytesIn r ≡ loaded (now (slice .entry)) ⌝ }
 {
@@ -50,54 +56,48 @@ pub fn load(slice: &[u8]) -> Record
             head: 0,
             signers: 0,
             payload: Payload { high: 0, low: 0 },
+            note: note::nothing(),
         };
     }
+    let block = block::load(&slice[0..NOTE_AT]);
+    let payload = block.payload;
     Record {
-        head: octets::word(&slice[0..SIGNERS_AT]),
-        signers: octets::word(&slice[SIGNERS_AT..PAYLOAD_AT]),
-        payload: payload::load(&slice[PAYLOAD_AT..PAYLOAD_AT + payload::SIZE]),
+        head: block.first,
+        signers: block.second,
+        payload,
+        note: note::load(&slice[NOTE_AT..config::RECORD_SIZE]),
     }
 }
 
 impl Record {
-    // A record that holds a payload with these signers.
+    // A record that holds a payload with these signers, and notes nothing.
     pub fn held(signers: u64, payload: Payload) -> Record
-        ensures { λ r. ⌜ bytesIn r ≡ encoding (Held signers (payloadBytes payload)) ⌝ }
+        ensures { λ r. ⌜ bytesIn r ≡ encoding (Held signers (payloadBytes payload) Nothing) ⌝ }
     {
-        Record {
-            head: HELD,
-            signers,
-            payload,
-        }
+        Record::holding(signers, payload, note::nothing())
     }
 
-    // Writes the record over a slice of 32 bytes. A slice of another length stays as it is.
+    // Writes the record over a slice of 64 bytes. A slice of another length stays as it is.
     pub fn store(self, slice: &mut [u8])
         ensures { λ _. ⌜ now (slice .exit) ≡ cond (eqb (length (now (slice .entry))) recordSize) (bytesIn self) (now (slice .entry)) ⌝ }
     {
         if slice.len() != config::RECORD_SIZE {
             return;
         }
-        octets::put(slice, 0, self.head);
-        octets::put(slice, SIGNERS_AT, self.signers);
-        octets::put(slice, PAYLOAD_AT, self.payload.high);
-        octets::put(slice, PAYLOAD_AT + 8, self.payload.low);
+        self.half().store(&mut slice[0..NOTE_AT]);
+        let note = self.note;
+        note.store(&mut slice[NOTE_AT..config::RECORD_SIZE]);
     }
 
-    // Whether all 32 bytes are zero, and so the record empty (R4.5).
+    // Whether all 64 bytes are zero, and so the record empty (R4.5).
     pub fn is_blank(self) -> bool
         ensures { λ r. ⌜ r ≡ blank (bytesIn self) ⌝ }
     {
-        if self.head != 0 {
+        if !self.half().is_blank() {
             return false;
         }
-        if self.signers != 0 {
-            return false;
-        }
-        if self.payload.high != 0 {
-            return false;
-        }
-        self.payload.low == 0
+        let note = self.note;
+        note.is_blank()
     }
 
     // R4.4: whether the record is well-formed, for a slot of the sender at this node. The calls refuse any
@@ -105,7 +105,15 @@ impl Record {
     pub fn well_formed(self, config: Config, sender: u8) -> bool
         ensures { λ r. ⌜ r ≡ wellFormed config sender (bytesIn self) ⌝ }
     {
-        self.well_formed_by(
+        if self.head == 0 {
+            return self.is_blank();
+        }
+        let note = self.note;
+        let payload = self.payload;
+        if !note.well_formed(config, sender, payload) {
+            return false;
+        }
+        self.half_well_formed(
             signers::below(config.n),
             config.quorum(),
             signers::insert(0, config.own),
@@ -120,7 +128,8 @@ impl Record {
         1 < self.head / HELD
     }
 
-    // R8.2 to R8.6: what a bundle with these signers and this payload does to the record of a slot of the sender.
+    // R8.2 to R8.6, R8.14 and R8.16: what a bundle with these signers and this payload does to the record of a slot of the
+    // sender.
     pub fn receive(self, config: Config, sender: u8, signers: u64, payload: Payload) -> Received
         ensures { λ r. ⌜ receivedOf r ≡ encodedUpdate (received config sender signers (payloadBytes payload) (bytesIn self)) ⌝ }
     {
@@ -138,25 +147,48 @@ impl Record {
 }
 
 impl Record {
-    // A record of a payload that these signers delivered.
-    fn delivered(signers: u64, payload: Payload) -> Record
-        ensures { λ r. ⌜ bytesIn r ≡ encoding (DeliveredOf signers (payloadBytes payload)) ⌝ }
+    // A record that holds a payload with these signers and this note.
+    fn holding(signers: u64, payload: Payload, note: Note) -> Record
+        ensures { λ r. ⌜ bytesIn r ≡ layout 1 signers (payloadBytes payload) (noteBytes note) ⌝ }
+    {
+        Record {
+            head: HELD,
+            signers,
+            payload,
+            note,
+        }
+    }
+
+    // A record of a payload that these signers delivered, with this note.
+    fn delivered(signers: u64, payload: Payload, note: Note) -> Record
+        ensures { λ r. ⌜ bytesIn r ≡ layout 2 signers (payloadBytes payload) (noteBytes note) ⌝ }
     {
         Record {
             head: DELIVERED,
             signers,
             payload,
+            note,
         }
     }
 
-    // Whether a record is well-formed, by the sets of all nodes, of us and of the sender. The sender is asked for in each
-    // branch: before them, the compiler joins two tests into flags, which costs more than both.
-    fn well_formed_by(self, all: u64, quorum: u32, own: u64, sender: u64) -> bool
-        ensures { λ r. ⌜ r ≡ wellFormedBy all quorum own sender self ⌝ }
+    // Its first half: what it holds.
+    fn half(self) -> Block
+        ensures { λ r. ⌜ r ≡ heldBlock self ⌝ }
     {
-        if self.head == 0 {
-            return self.is_blank();
+        let payload = self.payload;
+        Block {
+            first: self.head,
+            second: self.signers,
+            payload,
         }
+    }
+
+    // Whether the first half of a record that is not empty is well-formed, by the sets of all nodes, of us and of the sender.
+    // The sender is asked for in each branch: before them, the compiler joins two tests into flags, which costs more than
+    // both.
+    fn half_well_formed(self, all: u64, quorum: u32, own: u64, sender: u64) -> bool
+        ensures { λ r. ⌜ r ≡ halfWellFormed all quorum own sender self ⌝ }
+    {
         if all < self.signers {
             return false;
         }
@@ -176,9 +208,10 @@ impl Record {
     }
 
     // What a bundle does to a record that is well-formed. Its first word is tested by the same equalities
-    // as in `well_formed_by`, so that the compiler tests it once.
+    // as in `half_well_formed`, so that the compiler tests it once.
     fn update(self, config: Config, signers: u64, payload: Payload) -> Received
         requires { ⌜ HasState self ⌝ }
+        requires { ⌜ NoteReads (self .note) ⌝ }
         ensures { λ r. ⌜ receivedOf r ≡ encodedUpdate (updateOf (config .own) (quorum config) signers (payloadBytes payload) (decoded (bytesIn self))) ⌝ }
     {
         let state = self.head;
@@ -189,9 +222,10 @@ impl Record {
             return sign(config, signers, payload);
         }
         if payload.equals(self.payload) {
-            return join(config, self.signers, signers, payload);
+            let note = self.note;
+            return join(config, self.signers, signers, payload, note);
         }
-        replace(config, self, signers, payload)
+        second(config, self, signers, payload)
     }
 }
 
@@ -202,34 +236,45 @@ fn sign(config: Config, signers: u64, payload: Payload) -> Received
     if signers::member(signers, config.own) {
         return Received::Refused(Refusal::OwnSignatureUnknown);
     }
-    let signers = signers::insert(signers, config.own);
-    if config.quorum() <= signers::size(signers) {
-        return Received::Delivered(Record::delivered(signers, payload));
+    let signed = signers::insert(signers, config.own);
+    if config.quorum() <= signers::size(signed) {
+        return Received::Delivered(Record::delivered(signed, payload, note::nothing()));
     }
-    Received::Signed(Record::held(signers, payload))
+    Received::Signed(Record::held(signed, payload))
 }
 
-// R8.3: a bundle with the payload that is held, and so far signed by `known`. The signers join.
-fn join(config: Config, known: u64, signers: u64, payload: Payload) -> Received
-    ensures { λ r. ⌜ receivedOf r ≡ encodedUpdate (updateOf (config .own) (quorum config) signers (payloadBytes payload) (Held known (payloadBytes payload))) ⌝ }
+// R8.3: a bundle with the payload that is held, and so far signed by `known`. The signers join, and what is noted stays.
+fn join(config: Config, known: u64, signers: u64, payload: Payload, note: Note) -> Received
+    requires { ⌜ NoteReads note ⌝ }
+    ensures { λ r. ⌜ receivedOf r ≡ encodedUpdate (updateOf (config .own) (quorum config) signers (payloadBytes payload) (Held known (payloadBytes payload) (decodedNote (noteBytes note)))) ⌝ }
 {
     let joined = signers::union(known, signers);
     if config.quorum() <= signers::size(joined) {
-        return Received::Delivered(Record::delivered(joined, payload));
+        return Received::Delivered(Record::delivered(joined, payload, note));
     }
-    Received::Kept(Record::held(joined, payload))
+    Received::Kept(Record::holding(joined, payload, note))
 }
 
-// R8.4: a bundle with another payload than the one held. Only a full quorum replaces it.
-fn replace(config: Config, held: Record, signers: u64, payload: Payload) -> Received
-    requires { ⌜ same (payloadBytes (held .payload)) (payloadBytes payload) ≡ false ⌝ }
-    ensures { λ r. ⌜ receivedOf r ≡ encodedUpdate (updateOf (config .own) (quorum config) signers (payloadBytes payload) (Held (held .signers) (payloadBytes (held .payload)))) ⌝ }
+// A bundle with another payload than the one held. A full quorum replaces what is held, which is noted then (R8.4, R8.16);
+// fewer signers are noted, unless a third payload is (R8.14, R8.15).
+fn second(config: Config, found: Record, signers: u64, payload: Payload) -> Received
+    requires { ⌜ same (payloadBytes (found .payload)) (payloadBytes payload) ≡ false ⌝ }
+    ensures { λ r. ⌜ receivedOf r ≡ encodedUpdate (updateOf (config .own) (quorum config) signers (payloadBytes payload) (Held (found .signers) (payloadBytes (found .payload)) (decodedNote (noteBytes (found .note))))) ⌝ }
 {
     if signers::member(signers, config.own) {
         return Received::Refused(Refusal::OwnSignatureUnknown);
     }
-    if signers::size(signers) < config.quorum() {
+    let held = found.payload;
+    if config.quorum() <= signers::size(signers) {
+        return Received::Delivered(Record::delivered(
+            signers,
+            payload,
+            note::noted(found.signers, held),
+        ));
+    }
+    let note = found.note;
+    if note.notes_other(payload) {
         return Received::Refused(Refusal::OtherPayload);
     }
-    Received::Delivered(Record::delivered(signers, payload))
+    Received::Noted(Record::holding(found.signers, held, note.joined(signers, payload)))
 }

@@ -28,7 +28,7 @@ numberOf SenderUnsigned = 8
 numberOf PayloadLength = 9
 -- the outgoing buffer has another length than 32
 numberOf OutLength = 10
--- the buffer of records has another length than 512 × n
+-- the buffer of records has another length than 1,024 × n
 numberOf RecordsLength = 20
 -- the record is not well-formed
 numberOf MalformedRecord = 21
@@ -36,7 +36,7 @@ numberOf MalformedRecord = 21
 numberOf AlreadyDelivered = 22
 -- we are among the bundle's signers, and our record does not hold its payload
 numberOf OwnSignatureUnknown = 23
--- our record holds another payload, and the bundle has no quorum of signers
+-- our record holds another payload and notes a third, and the bundle has no quorum of signers
 numberOf OtherPayload = 24
 -- our sixteen records are all in use
 numberOf NoFreeSlot = 25

@@ -8,12 +8,11 @@ use Prim.Native.Nat.{ℕ, zero, suc, _≤_, _<_}
 use native.Mathlib.Nat.{le-refl, zero-add}
 use native.Mathlib.Omega.{arith}
 use lib.Arith.{lt-of-le-ne}
-use lib.Dec.{leb, eqb}
+use lib.Dec.{eqb}
 use lib.ListN.{length, length-replicate}
-use borrow.Author.Tests.{eqb-false, eq-eqb, ne-eqb}
+use borrow.Author.Tests.{eqb-false, ne-eqb}
 use Rattle.octets.specs.Octets.{same, bytesOf}
 use Rattle.signers.specs.Sets.{NodeSet}
-use Rattle.signers.specs.Signers.{size}
 use Rattle.refusal.specs.Outcome.{Outcome, refused, done, after}
 use Rattle.refusal.proofs.Reasons.{refused-not-done}
 use Rattle.payload.specs.declared.Payload.{Payload}
@@ -23,8 +22,8 @@ use Rattle.config.specs.Config.{quorum, recordsSize, withOwn, slotOfDay}
 use Rattle.bundle.specs.declared.Header.{Header}
 use Rattle.bundle.specs.Bundle.{bundleOf, read, slotIn, slotOf, payloadPart}
 use Rattle.bundle.specs.Bundle as bundle
-use Rattle.protocol.specs.Update as protocol
-use Rattle.protocol.specs.Update.{Record, Update, isEmpty, joinedSigners, updateResult}
+use Rattle.protocol.specs.Update.{Record, Update, updateResult}
+use Rattle.protocol.proofs.UpdateCases.{result-answer}
 use Rattle.protocol.specs.Trace.{Trace, start, _then_calls_, state}
 use Rattle.protocol.specs.Trace as trace
 use Rattle.protocol.proofs.TraceLaws.{ever-grows}
@@ -55,19 +54,7 @@ use Rattle.run_trace.proofs.Openings.{step-leaves, opened-buffer}
 
 -- an update never answers announced
 update-not-announced : (own q signers : ℕ) (payload : List ℕ) (r : Record) → isAnnounced (updateResult own q signers payload r .answer) ≡ false
-unfolding updateResult
-update-not-announced own q signers payload r = go (leb q (size (joinedSigners own q signers payload r))) (isEmpty r)
-  where
-    result-of : Bool → Bool → Update
-    result-of full fresh =
-        cond full
-        (record { answer = protocol.delivered; newRecord = protocol.Delivered (joinedSigners own q signers payload r) payload })
-        (record { answer = cond fresh protocol.signed protocol.kept; newRecord = protocol.Held (joinedSigners own q signers payload r) payload })
-
-    go : (full fresh : Bool) → isAnnounced (result-of full fresh .answer) ≡ false
-    go true fresh = refl
-    go false true = refl
-    go false false = refl
+update-not-announced = result-answer (λ answer. isAnnounced answer ≡ false) refl refl refl refl
 
 -- a bundle that is received
 module _ (w : Config) (given records out : List ℕ) where

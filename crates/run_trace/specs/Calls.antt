@@ -39,6 +39,7 @@ isAnnounced answers.announced = true
 isAnnounced answers.kept = false
 isAnnounced answers.signed = false
 isAnnounced answers.delivered = false
+isAnnounced answers.noted = false
 
 -- the step gives its node a bundle of this slot; the payload that it broadcasts or gives
 abbrev pub gives : Config → (slot : Slot) (step : Step) → Bool

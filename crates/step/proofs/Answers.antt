@@ -10,7 +10,7 @@ use Rattle.refusal.specs.Outcome.{Outcome, refused, done, _and-then_}
 use Rattle.payload.specs.Payload.{bytes}
 use Rattle.config.specs.declared.Config.{Config}
 use Rattle.protocol.specs.Update as protocol
-use Rattle.protocol.specs.Update.{announced, kept, signed, delivered}
+use Rattle.protocol.specs.Update.{announced, kept, signed, delivered, noted}
 use Rattle.calls.proofs.Preserved.{broadcast-length, receive-length}
 use Rattle.text.specs.Text.{ascii, decimal, written}
 use Rattle.text.proofs.DecimalDigits.{decimal-short}
@@ -64,6 +64,7 @@ word-length announced = omega arith
 word-length kept = omega arith
 word-length signed = omega arith
 word-length delivered = omega arith
+word-length noted = omega arith
 
 -- what stands after the node,
 answer-length : (o : Outcome (protocol.Answer × ℕ)) → length (ascii " " ++ answerText o) ≤ 34

@@ -12,7 +12,7 @@ use Rattle.payload.specs.Payload.{bytes}
 use Rattle.config.specs.declared.Config.{Config}
 use Rattle.bundle.specs.Bundle.{bundleOf, headerOfDay, bundleSize}
 use Rattle.protocol.specs.Update as protocol
-use Rattle.protocol.specs.Update.{announced, kept, signed, delivered}
+use Rattle.protocol.specs.Update.{announced, kept, signed, delivered, noted}
 use Rattle.calls.specs.declared.Announcement.the-variants.{Announced}
 use Rattle.calls.specs.Broadcast.{broadcast, broadcastRecords, broadcastOut, announcementOf, announcementCount}
 use Rattle.calls.specs.Receive.{receive, receiveRecords, receiveOut, reported, receiptOf}
@@ -92,6 +92,7 @@ answerWord announced = ascii "announced"
 answerWord kept = ascii "kept"
 answerWord signed = ascii "signed"
 answerWord delivered = ascii "delivered"
+answerWord noted = ascii "noted"
 
 -- R16.2: the word of the answer, 0 and the count; or `refused`, the number of the reason and 0
 abbrev pub answerText : Outcome (protocol.Answer × ℕ) → List ℕ

@@ -136,6 +136,10 @@ fn received(receipt: Receipt, at: usize, out: &mut [u8]) -> usize
             let a = text::put(b" delivered 0 ", at, out);
             counted(count, a, out)
         }
+        Receipt::Noted(count) => {
+            let a = text::put(b" noted 0 ", at, out);
+            counted(count, a, out)
+        }
         Receipt::Refused(reason) => refused(reason, at, out),
     }
 }

@@ -25,7 +25,9 @@ use Rattle.protocol.specs.Update.{Record, Empty, Update, signersOf, payloadOf, 
 use Rattle.protocol.specs.OneSlot as one-slot
 use Rattle.protocol.specs.OneSlot.{Act}
 use Rattle.protocol.specs.Differences as differences
-use Rattle.protocol.proofs.WellFormed.{Bundled, WellFormed, well-formed-bundled, announced-well-formed, update-payload, update-well-formed}
+use Rattle.protocol.proofs.WellFormed.{Bundled, WellFormed, well-formed-bundled, announced-well-formed, update-well-formed}
+use Rattle.protocol.proofs.UpdateCases.{update-filled, update-payload, delivers-sends}
+use Rattle.calls.proofs.Settling.{result-well-formed as stored-well-formed}
 use Rattle.record.specs.Record.{encoding, wellFormed}
 use Rattle.record.proofs.Encoding.{encoding-length, empty-encoding, blank-encoding, encoding-well-formed, decoded-encoding}
 use Rattle.calls.specs.Records.{ownSlot, recordAt, stored}
@@ -87,9 +89,8 @@ MatchesAct s slot u call records r (some a) = ActCall s slot u call records r a
 
 -- ---- a broadcast on an empty record: what it leaves and sends
 
-announced-length : (u : ℕ) (payload : List ℕ) → length payload ≡ payloadSize → length (encoding (announcedBy u payload)) ≡ recordSize
-unfolding announcedBy
-announced-length u payload whole = encoding-length (announcedBy u payload) (λ e. whole)
+announced-length : (n q u : ℕ) (payload : List ℕ) → u < n → n ≤ 64 → length payload ≡ payloadSize → length (encoding (announcedBy u payload)) ≡ recordSize
+announced-length n q u payload l most whole = encoding-length n u q u (announcedBy u payload) (announced-well-formed n q u payload l most whole)
 
 broadcast-outcome : (q u : ℕ) (payload : List ℕ) (r : Record) → isEmpty r ≡ true
     → one-slot.outcome q u (one-slot.Broadcast payload) r ≡ done (record { answer = announced; newRecord = announcedBy u payload })
@@ -199,7 +200,7 @@ module _ (s : System) (g : good (configAt s 0) ≡ true) (dated : s .shared .day
         within = broadcast-range s u payload records out seq e
 
         long : length (encoding (announcedBy u payload)) ≡ recordSize
-        long = announced-length u payload (broadcast-done (configAt s u) payload records out seq e .whole)
+        long = announced-length (s .shared .n) (quorumOf s) u payload l most (broadcast-done (configAt s u) payload records out seq e .whole)
 
   -- a broadcast in this slot, which is then the node's own
   broadcast-own : (payload out records : List ℕ) (r : Record) (seq : ℕ) → broadcast (configAt s u) payload records out ≡ done seq
@@ -227,7 +228,7 @@ module _ (s : System) (g : good (configAt s 0) ≡ true) (dated : s .shared .day
       done-here = broadcast-done (configAt s u) payload records out seq e
 
       long : length (encoding (announcedBy u payload)) ≡ recordSize
-      long = announced-length u payload (done-here .whole)
+      long = announced-length (s .shared .n) (quorumOf s) u payload l most (done-here .whole)
 
       empty : isEmpty r ≡ true
       empty = sym (blank-encoding r) ∙ ap blank (sym (holds .held)) ∙ done-here .free
@@ -287,10 +288,6 @@ module _ (s : System) (g : good (configAt s 0) ≡ true) (dated : s .shared .day
         accepted : Read (configAt s u) bundle h
         accepted = read-says (configAt s u) bundle h e
 
-        -- what an update leaves of a bundle that is read has a record's length
-        update-length : (result : Update) → payloadOf (result .newRecord) ≡ payloadPart (configAt s u) bundle → length (encoding (result .newRecord)) ≡ recordSize
-        update-length result same = encoding-length (result .newRecord) (λ x. ap length same ∙ accepted .bundled .whole)
-
         -- a bundle given with outgoing bytes of another length
         no-room-match : eqb (length out) bundleSize ≡ false → NoActCall s slot u (Receive bundle out) records r
         no-room-match short = go (receive (configAt s u) bundle records out) refl
@@ -333,7 +330,10 @@ module _ (s : System) (g : good (configAt s 0) ≡ true) (dated : s .shared .day
               sent false = refl
 
               long : length (encoding (result .newRecord)) ≡ recordSize
-              long = update-length result (update-payload _ _ _ _ _ result (receive-done (configAt s u) bundle records out h e result f .2) .1)
+              long =
+                  let (out-room, sized, taken, formed) = receive-done (configAt s u) bundle records out h e result f in
+                  let (filled, fine) = stored-well-formed (configAt s u) bundle records out h e sized formed (f ∙ sym taken) result f in
+                  encoding-length _ _ _ _ (result .newRecord) fine
 
           other-match : NoActCall s slot u (Receive bundle out) records r
           other-match = go (receive (configAt s u) bundle records out) refl
@@ -363,11 +363,16 @@ module _ (s : System) (g : good (configAt s 0) ≡ true) (dated : s .shared .day
           named-here : slotIn bundle ≡ slot
           named-here = accepted .slot-named ∙ here
 
-          -- what an update leaves: a well-formed record, not empty, with the payload given
+          -- what an update leaves: a well-formed record, not empty, and where it delivers with the payload given
           module _ (result : Update) (f : receive-outcome ≡ done result) where
-            result-payload : (isEmpty (result .newRecord) ≡ false) × (payloadOf (result .newRecord) ≡ payloadPart (configAt s u) bundle)
+            result-filled : isEmpty (result .newRecord) ≡ false
             unfolding one-slot.outcome
-            result-payload = update-payload u (quorumOf s) (h .signers) (payloadPart (configAt s u) bundle) r result f
+            result-filled = update-filled u (quorumOf s) (h .signers) (payloadPart (configAt s u) bundle) r result f
+
+            result-payload : answers.delivers (result .answer) ≡ true → payloadOf (result .newRecord) ≡ payloadPart (configAt s u) bundle
+            unfolding one-slot.outcome
+            result-payload d =
+                update-payload u (quorumOf s) (h .signers) (payloadPart (configAt s u) bundle) r result f (delivers-sends (result .answer) d)
 
             result-well-formed : WellFormed (s .shared .n) (slot .sender) (quorumOf s) u (result .newRecord)
             unfolding one-slot.outcome configAt withOwn
@@ -379,7 +384,7 @@ module _ (s : System) (g : good (configAt s 0) ≡ true) (dated : s .shared .day
             result-holds : HoldsRecord s slot u (stored (configAt s u) (slotIn bundle) (encoding (result .newRecord)) records) (result .newRecord)
             result-holds =
                 subst (λ (k : Slot). HoldsRecord s slot u (stored (configAt s u) k (encoding (result .newRecord)) records) (result .newRecord)) (sym named-here)
-                (stores-here slot range records (result .newRecord) (update-length result (result-payload .1)) (holds .sized) result-well-formed)
+                (stores-here slot range records (result .newRecord) (encoding-length (s .shared .n) (slot .sender) (quorumOf s) u (result .newRecord) result-well-formed) (holds .sized) result-well-formed)
 
             result-written : answers.sends (result .answer) ≡ true
                 → (receiveOut (configAt s u) bundle records out ≡ slotBundle slot (signersOf (result .newRecord)) (payloadOf (result .newRecord)))
@@ -387,7 +392,7 @@ module _ (s : System) (g : good (configAt s 0) ≡ true) (dated : s .shared .day
             unfolding receiveOut recordBundle
             result-written x = (
               rw (receive-here ∙ f, x) (ap (λ (k : Slot). slotBundle k (signersOf (result .newRecord)) (payloadOf (result .newRecord))) named-here),
-              well-formed-bundled (s .shared .n) (slot .sender) (quorumOf s) u (result .newRecord) (result-payload .0) result-well-formed,
+              well-formed-bundled (s .shared .n) (slot .sender) (quorumOf s) u (result .newRecord) result-filled result-well-formed,
             )
 
           -- a payload that is delivered is the one given
@@ -396,7 +401,12 @@ module _ (s : System) (g : good (configAt s 0) ≡ true) (dated : s .shared .day
               ≡ after o (λ result. answers.delivers (result .answer) && same (payloadOf (result .newRecord)) payload) false
           delivered-this payload (refused number) f = refl
           delivered-this payload (done result) f =
-              ap (λ (p : List ℕ). answers.delivers (result .answer) && same p payload) (sym (result-payload result f .1 ∙ accepted .payload))
+              this (answers.delivers (result .answer)) (λ d. sym (result-payload result f d ∙ accepted .payload))
+            where
+              this : (b : Bool) → (b ≡ true → payloadIn bundle ≡ payloadOf (result .newRecord))
+                  → (b && same (payloadIn bundle) payload) ≡ (b && same (payloadOf (result .newRecord)) payload)
+              this true given = ap (λ (p : List ℕ). same p payload) (given refl)
+              this false given = refl
 
           received-holds : (o : Outcome Update) → receive-outcome ≡ o
               → HoldsRecord s slot u (after o (λ result. stored (configAt s u) (slotIn bundle) (encoding (result .newRecord)) records) records)

@@ -8,6 +8,7 @@ use Rattle.config.specs.Config.{configFor, withOwn, good, quorum, inRange, slot
 use Rattle.bundle.specs.Bundle.{bundleOf, slotIn, headerIn, headerReasons, readReasons, read, payloadPart}
 use Rattle.protocol.specs.Update.{announcedBy, updateReasons, joinedSigners, updateResult, update}
 use Rattle.protocol.specs.Trace.{state}
+use Rattle.note.specs.Note as note
 use Rattle.record.specs.Record.{layout, encoding, decoded, stateAllows, wellFormed}
 use Rattle.calls.specs.Records.{recordAt, replaced, stored}
 use Rattle.calls.specs.Open.{openReasons, opened, openRecords}
@@ -18,7 +19,7 @@ use Rattle.system.specs.Demand3.{configAt, recordsAfter, outAfter}
 -- a declaration that unfolds this name unfolds all that are listed here
 unfoldable pub calls-compute : Unit {0}
 unfolding ones same number bytesOf member insert within unless configFor withOwn good quorum inRange slotOfDay sameSlot slotPlace place recordsSize bundleOf slotIn headerIn headerReasons readReasons
-    read payloadPart announcedBy updateReasons joinedSigners updateResult update state layout encoding decoded stateAllows wellFormed recordAt replaced stored openReasons opened openRecords
+    read payloadPart announcedBy updateReasons joinedSigners updateResult update state note.encoding note.decoded note.noteAllows note.wellFormed layout encoding decoded stateAllows wellFormed recordAt replaced stored openReasons opened openRecords
     search broadcastReasons broadcast broadcastRecords broadcastOut recordBundle receiveReasons receive receiveRecords receiveOut reported
     configAt recordsAfter outAfter
 calls-compute = tt

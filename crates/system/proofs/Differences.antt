@@ -38,7 +38,7 @@ module _ (s : System) (list : Trace Call) (orderly : Orderly s list) (slot : Slo
       ever-on-acts s list orderly slot range (signs s slot payload) (one-slot.signs q payload) u
       (λ call records r. signs-forth s slot u call records r range (orderly .configured) (orderly .dated) payload)
 
-  signed-back : (payload : List ℕ) (u : ℕ) → one-slot.ever q (one-slot.signs q payload) (acts s slot list) u ≡ true → ever s (signs s slot payload) list u ≡ true
+  pub signed-back : (payload : List ℕ) (u : ℕ) → one-slot.ever q (one-slot.signs q payload) (acts s slot list) u ≡ true → ever s (signs s slot payload) list u ≡ true
   signed-back payload u =
       ever-on-calls s list orderly slot range (signs s slot payload) (one-slot.signs q payload) u
       (λ call records r. signs-back s slot u call records r range (orderly .configured) (orderly .dated) payload)
@@ -71,7 +71,7 @@ module _ (s : System) (list : Trace Call) (orderly : Orderly s list) (slot : Slo
 
     -- at the end a node that was called has the record that the acts leave
     module _ (here : called s list u ≡ true) where
-      record-left : recordOf (configAt s u) slot (buffer s list u) ≡ slotRecord s slot list u
+      pub record-left : recordOf (configAt s u) slot (buffer s list u) ≡ slotRecord s slot list u
       record-left =
           let holds = order-holds s slot range (orderly .configured) (orderly .dated) list (orderly .ordered) u here in
           ap decoded (holds .held) ∙ decoded-encoding (s .shared .n) (slot .sender) q u few (slotRecord s slot list u) (holds .well-formed)
@@ -82,8 +82,8 @@ module _ (s : System) (list : Trace Call) (orderly : Orderly s list) (slot : Slo
           record {
             signs-one = λ first second e f. kept .signs-one first second (signed-forth first u e) (signed-forth second u f);
             empty = λ e payload. unsigned-back payload u (kept .empty (sym record-left ∙ e) payload);
-            held = λ signers payload e. signed-back payload u (kept .held signers payload (sym record-left ∙ e));
-            delivered = λ signers payload e. let (signed, made) = kept .delivered signers payload (sym record-left ∙ e) in (signed, signed-back signed u made);
+            held = λ signers payload note e. signed-back payload u (kept .held signers payload note (sym record-left ∙ e));
+            delivered = λ signers payload note e. let (signed, made) = kept .delivered signers payload note (sym record-left ∙ e) in (signed, signed-back signed u made);
           }
 
 pub other-at-once : OtherAtOnce

@@ -8,10 +8,12 @@ use native.Mathlib.Nat.{le-of-eq}
 use lib.Dec.{eqb, lit<, lit≤}
 use borrow.Author.Tests.{eqb-true}
 use Rattle.signers.specs.Sets.{count}
+use Rattle.refusal.specs.Outcome.{done}
+use Rattle.protocol.specs.Update.{Noted, noted}
 use Rattle.protocol.specs.Trace as trace
 use Rattle.protocol.specs.Trace.{each}
 use Rattle.system.specs.Demand3.{inSlot, correct, correctCount, opens, announcesIn, announces, deliversIn, delivers, sends, sendsThis, sendsIn, signs, reaches, ever, Assumed}
-use Rattle.system.specs.Example.{sixNodes, six, firstSlot, first, second, third, gets, faultySlot, correctSlot, list, reached, NotVacuous}
+use Rattle.system.specs.Example.{sixNodes, six, firstSlot, first, second, third, gets, twoPayloads, faultySlot, correctSlot, opened, list, answerTo48, notedAt, reached, NotVacuous}
 use Rattle.system.proofs.Computing.{calls-compute}
 use Rattle.system.proofs.ComputedTests.{given-before, unforged-now, unforged-test, lawful-test, lawful-says, sent-test, sent-says}
 
@@ -20,11 +22,14 @@ passes : (lawful-test six list ≡ true)
     × (sent-test six (λ bundle. eqb (reached bundle) (correctCount six - six .shared .d)) list ≡ true)
     × (ever six (signs six (firstSlot 5) second) list 4 ≡ true)
     × (each (ever six (delivers six (firstSlot 5) first) list) 5 ≡ true)
+    × (answerTo48 ≡ done (noted, 2))
+    × (notedAt 0 ≡ Noted 48 second)
+    × (notedAt 4 ≡ Noted 48 second)
     × (ever six (announces six (firstSlot 0) third) list 0 ≡ true)
     × (each (ever six (delivers six (firstSlot 0) third) list) 5 ≡ true)
-unfolding sixNodes six firstSlot first second third gets faultySlot correctSlot list calls-compute inSlot correct correctCount opens announcesIn announces deliversIn delivers sends sendsIn signs
+unfolding sixNodes six firstSlot first second third gets twoPayloads faultySlot correctSlot opened list answerTo48 calls-compute inSlot correct correctCount opens announcesIn announces deliversIn delivers sends sendsIn signs
     reaches count each trace.ever given-before unforged-now unforged-test lawful-test sent-test
-passes = (refl, refl, refl, refl, refl, refl)
+passes = (refl, refl, refl, refl, refl, refl, refl, refl, refl)
 
 assumed : Assumed six list
 unfolding calls-compute sixNodes six count
@@ -43,4 +48,7 @@ not-vacuous = (
   passes .3,
   passes .4,
   passes .5,
+  passes .6,
+  passes .7,
+  passes .8,
 )

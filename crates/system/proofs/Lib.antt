@@ -9,6 +9,7 @@ pub mod CallTests
 pub mod Simulation
 pub mod Demand3
 pub mod Differences
+pub mod Notes
 pub mod Shown
 pub mod Previews
 pub mod OrderlyRefusals

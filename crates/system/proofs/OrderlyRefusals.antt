@@ -80,10 +80,10 @@ never-malformed s list orderly u known here = (
 unheld : (s : System) (list : Trace Call) (u : ℕ) (slot : Slot) (payload : List ℕ) → HoldsSigned s list u slot → ever s (signs s slot payload) list u ≡ true
     → (r : Record) → recordOf (configAt s u) slot (buffer s list u) ≡ r → isDelivered r ≡ false → holds r payload ≡ false → ⊥
 unheld s list u slot payload kept signed Empty is waits apart = true≢false (sym signed ∙ kept .empty is payload)
-unheld s list u slot payload kept signed (Held signers held) is waits apart =
-    let one : held ≡ payload = kept .signs-one held payload (kept .held signers held is) signed in
+unheld s list u slot payload kept signed (Held signers held note) is waits apart =
+    let one : held ≡ payload = kept .signs-one held payload (kept .held signers held note is) signed in
     true≢false (sym (rw one (same-self payload)) ∙ apart)
-unheld s list u slot payload kept signed (Delivered signers first) is waits apart = true≢false waits
+unheld s list u slot payload kept signed (Delivered signers first note) is waits apart = true≢false waits
 
 pub never-own-unknown : NeverOwnUnknown
 unfolding configAt withOwn

@@ -13,7 +13,7 @@ use Rattle.config.specs.declared.Slot.{Slot}
 use Rattle.config.specs.Config.{withOwn, good, quorum, slotOfDay, place}
 use Rattle.config.proofs.Laws.{good-says}
 use Rattle.bundle.specs.Bundle.{payloadIn}
-use Rattle.protocol.specs.Update.{Record, Empty, Held, Delivered, isDelivered, payloadOf}
+use Rattle.protocol.specs.Update.{Note, Record, Empty, Held, Delivered, isDelivered, payloadOf}
 use Rattle.protocol.specs.Trace.{Trace}
 use Rattle.protocol.proofs.WellFormed.{WellFormed}
 use Rattle.protocol.proofs.TraceLaws.{ever-finds, ever-mono}
@@ -33,10 +33,10 @@ use Rattle.system.proofs.Simulation.{correct-below, assumed-orderly, ac
 use Rattle.system.proofs.Demand3.{delivered-forth, delivered-back, delivered-range, demand3}
 
 -- a record that is delivered has signers beside its payload
-delivered-fields : (r : Record) → isDelivered r ≡ true → (signers : ℕ) × (r ≡ Delivered signers (payloadOf r))
+delivered-fields : (r : Record) → isDelivered r ≡ true → (signers : ℕ) × (note : Note) × (r ≡ Delivered signers (payloadOf r) note)
 delivered-fields Empty e = absurd (true≢false (sym e))
-delivered-fields (Held signers payload) e = absurd (true≢false (sym e))
-delivered-fields (Delivered signers payload) e = (signers, refl)
+delivered-fields (Held signers payload note) e = absurd (true≢false (sym e))
+delivered-fields (Delivered signers payload note) e = (signers, note, refl)
 
 -- a call that delivers delivers some payload
 delivers-some : (s : System) (slot : Slot) (u : ℕ) (call : Call) (records : List ℕ) → deliversIn s slot u call records ≡ true
@@ -89,10 +89,10 @@ module _ (s : System) (list : Trace Call) (orderly : Orderly s list) (u : ℕ) (
   shown-delivered payload start e this =
       let range = shown-range start e in
       let d = shown-left range start e in
-      let (signers, is) = delivered-fields (left range) d in
+      let (signers, note, is) = delivered-fields (left range) d in
       delivered-back s list orderly slot range payload u
-      (record-delivered (quorumOf s) (acts s slot list) u signers payload
-      (is ∙ ap (Delivered signers) (sym (left-shown range d .1) ∙ this)))
+      (record-delivered (quorumOf s) (acts s slot list) u signers payload note
+      (is ∙ ap (λ (p : List ℕ). Delivered signers p note) (sym (left-shown range d .1) ∙ this)))
 
   -- and what was delivered is shown
   delivered-shown : (payload : List ℕ) → ever s (delivers s slot payload) list u ≡ true
@@ -100,7 +100,7 @@ module _ (s : System) (list : Trace Call) (orderly : Orderly s list) (u : ℕ) (
       × (shownPayload s list u slot ≡ payload)
   delivered-shown payload e =
       let range = delivered-range s list u slot payload e in
-      let (signers, is, sent) =
+      let (signers, note, is, sent) =
       delivered-record (quorumOf s) (acts s slot list) u payload (delivered-forth s list orderly slot range payload u e) in
       let shown = left-shown range (ap isDelivered is) in
       (shown .0, shown .1 ∙ ap payloadOf is)

@@ -34,7 +34,7 @@ pub correct-below : (s : System) (u : ℕ) → correct s u ≡ true → u < s .s
 unfolding correct
 correct-below s u = nodes.correct-below (s .shared .n) (s .faulty) u
 
-lawful-order : (s : System) (list : Trace Call) → Lawful s list → InOrder s list
+pub lawful-order : (s : System) (list : Trace Call) → Lawful s list → InOrder s list
 lawful-order s start lawful = tt
 lawful-order s (earlier then u calls call) lawful =
     (lawful-order s earlier (lawful .0), correct-below s u (lawful .1), lawful .2, lawful .3)

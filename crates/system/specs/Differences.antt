@@ -10,7 +10,7 @@ use Rattle.signers.specs.Signers.{size}
 use Rattle.config.specs.declared.Slot.{Slot}
 use Rattle.config.specs.Config.{quorum, slotOfDay, inRange}
 use Rattle.bundle.specs.Bundle.{headerIn}
-use Rattle.protocol.specs.Update.{Empty, Held, Delivered}
+use Rattle.protocol.specs.Update.{Note, Empty, Held, Delivered}
 use Rattle.protocol.specs.Trace.{Trace}
 use Rattle.calls.specs.Algorithm.{recordOf}
 use Rattle.system.specs.Demand3.{Call, Open, Broadcast, Receive, System, configAt, delivers, signs, buffer, ever, called}
@@ -36,9 +36,9 @@ OtherAtOnce =
 pub record HoldsSigned (s : System) (list : Trace Call) (u : ℕ) (slot : Slot) : Type 0 where
   pub signs-one : (first second : List ℕ) → ever s (signs s slot first) list u ≡ true → ever s (signs s slot second) list u ≡ true → first ≡ second
   pub empty : recordOf (configAt s u) slot (buffer s list u) ≡ Empty → (payload : List ℕ) → ever s (signs s slot payload) list u ≡ false
-  pub held : (signers : ℕ) (payload : List ℕ) → recordOf (configAt s u) slot (buffer s list u) ≡ Held signers payload
+  pub held : (signers : ℕ) (payload : List ℕ) (note : Note) → recordOf (configAt s u) slot (buffer s list u) ≡ Held signers payload note
       → ever s (signs s slot payload) list u ≡ true
-  pub delivered : (signers : ℕ) (payload : List ℕ) → recordOf (configAt s u) slot (buffer s list u) ≡ Delivered signers payload
+  pub delivered : (signers : ℕ) (payload : List ℕ) (note : Note) → recordOf (configAt s u) slot (buffer s list u) ≡ Delivered signers payload note
       → (signed : List ℕ) × (ever s (signs s slot signed) list u ≡ true)
 
 abbrev pub OnePayloadHeld : Type 0

@@ -1,5 +1,6 @@
 -- R14.19: demand 3, the claim of RULES section 14, is not empty. A list of calls, written out, meets all that is assumed of one; on it a faulty node sends two
--- payloads in its slot, each bundle that a correct node sends misses one, and payloads are delivered. It is proved in proofs/Example.antt.
+-- payloads in its slot, of which correct nodes note the second, each bundle that a correct node sends misses one, and payloads are delivered. It is proved in
+-- proofs/Example.antt.
 -- Assumes nothing.
 use mathlib.Core.Path.{_≡_}
 use mathlib.Core.Bool.{true}
@@ -13,8 +14,12 @@ use Rattle.config.specs.declared.Config.{Config}
 use Rattle.config.specs.declared.Slot.{Slot}
 use Rattle.config.specs.Config.{configFor, slotOfDay, recordsSize}
 use Rattle.bundle.specs.Bundle.{bundleSize, bundleOf, headerOfDay}
+use Rattle.refusal.specs.Outcome.{Outcome, done, _and-then_}
+use Rattle.protocol.specs.Update.{Note, Noted, noteOf, Answer, noted}
 use Rattle.protocol.specs.Trace.{Trace, start, _then_calls_, each}
-use Rattle.system.specs.Demand3.{Call, Open, Broadcast, Receive, System, correct, correctCount, announces, delivers, sendsThis, signs, reaches, ever, Assumed, Reached}
+use Rattle.calls.specs.Receive.{receive, reported}
+use Rattle.calls.specs.Algorithm.{recordOf}
+use Rattle.system.specs.Demand3.{Call, Open, Broadcast, Receive, System, configAt, buffer, correct, correctCount, announces, delivers, sendsThis, signs, reaches, ever, Assumed, Reached}
 
 -- Six nodes, of which one may be faulty; a sending may miss one correct node. The quorum is 4.
 unfoldable pub sixNodes : Config
@@ -47,15 +52,21 @@ unfoldable pub gets : (sender signers : ℕ) (payload : List ℕ) → Call
 gets sender signers payload = Receive (bundleOf (headerOfDay sixNodes sender 0 signers) payload) (replicate bundleSize 0)
 
 -- the slot of node 5. What it signs itself, 32, goes to 0, and with the other payload to 4. Node 0 sends 33, 1 sends 35 and 2, which delivers, sends
--- 39; 4 sends 48. Then 39 lets 0, 1, 3 and 4 deliver, 4 although it signed the other payload, and 3 sends 47. The calls after these eight are refused:
--- they bring each bundle that a correct node sent to four of them.
-unfoldable pub faultySlot : Trace Call → Trace Call
-faultySlot before =
+-- 39; 4 sends 48.
+unfoldable pub twoPayloads : Trace Call → Trace Call
+twoPayloads before =
     before
     then 0 calls gets 5 32 first
     then 1 calls gets 5 33 first
     then 2 calls gets 5 35 first
     then 4 calls gets 5 32 second
+
+-- That reaches 0, which holds the first payload and notes the second. Then 39 lets 0, 1, 3 and 4 deliver, 4 although it signed the other payload, which it
+-- notes then, and 3 sends 47. The calls after these nine are refused: they bring each bundle that a correct node sent to four of them.
+unfoldable pub faultySlot : Trace Call → Trace Call
+faultySlot before =
+    twoPayloads before
+    then 0 calls gets 5 48 second
     then 0 calls gets 5 39 first
     then 1 calls gets 5 39 first
     then 3 calls gets 5 39 first
@@ -67,7 +78,6 @@ faultySlot before =
     then 1 calls gets 5 35 first
     then 3 calls gets 5 35 first
     then 4 calls gets 5 48 second
-    then 0 calls gets 5 48 second
     then 1 calls gets 5 48 second
     then 2 calls gets 5 48 second
     then 0 calls gets 5 47 first
@@ -102,15 +112,30 @@ correctSlot before =
     then 2 calls gets 0 31 third
     then 3 calls gets 0 31 third
 
+unfoldable pub opened : Trace Call
+opened = start then 0 calls Open then 1 calls Open then 2 calls Open then 3 calls Open then 4 calls Open
+
 unfoldable pub list : Trace Call
-list = correctSlot (faultySlot (start then 0 calls Open then 1 calls Open then 2 calls Open then 3 calls Open then 4 calls Open))
+list = correctSlot (faultySlot opened)
+
+-- what node 0 answers, with the count, to the bundle of node 4, which has the second payload
+unfoldable pub answerTo48 : Outcome (Answer × ℕ)
+answerTo48 =
+    receive (configAt six 0) (bundleOf (headerOfDay sixNodes 5 0 48) second) (buffer six (twoPayloads opened) 0) (replicate bundleSize 0) and-then λ result.
+    done (reported result)
+
+-- what a node notes in the slot of node 5 at the list's end
+abbrev pub notedAt : (node : ℕ) → Note
+notedAt node = noteOf (recordOf (configAt six node) (firstSlot 5) (buffer six list node))
 
 -- how many correct nodes the bundle has reached
 abbrev pub reached : (bundle : List ℕ) → ℕ
 reached bundle = count (both (correct six) (ever six (reaches six bundle) list)) (six .shared .n)
 
 -- The list meets R14.1 to R14.6 and the premise of R14.17, with each bundle that a correct node sent reaching c - d of them and not one more. Node 4 signed
--- one payload in the slot of node 5 and delivered the other, as all correct nodes did. Node 0 announced a payload, which all of them delivered.
+-- one payload in the slot of node 5 and delivered the other, as all correct nodes did. Node 0, which held that one, answered noted to the first bundle with
+-- the second payload; at the end it and node 4 note it, with the signatures of 4 and of 5, which said two things. Node 0 announced a payload, which all of
+-- them delivered.
 abbrev pub NotVacuous : Type 0
 NotVacuous =
     Assumed six list
@@ -118,5 +143,8 @@ NotVacuous =
     × ((u : ℕ) (bundle : List ℕ) → correct six u ≡ true → ever six (sendsThis six bundle) list u ≡ true → reached bundle ≡ correctCount six - six .shared .d)
     × (ever six (signs six (firstSlot 5) second) list 4 ≡ true)
     × (each (ever six (delivers six (firstSlot 5) first) list) 5 ≡ true)
+    × (answerTo48 ≡ done (noted, 2))
+    × (notedAt 0 ≡ Noted 48 second)
+    × (notedAt 4 ≡ Noted 48 second)
     × (ever six (announces six (firstSlot 0) third) list 0 ≡ true)
     × (each (ever six (delivers six (firstSlot 0) third) list) 5 ≡ true)

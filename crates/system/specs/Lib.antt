@@ -5,6 +5,7 @@ pub mod Example
 pub mod Stricter
 pub mod SlotBySlot
 pub mod Differences
+pub mod Notes
 pub mod Shown
 pub mod Previews
 pub mod Play

@@ -50,7 +50,7 @@ playCall (B signers) = Receive (playBundle signers) playOut
 
 -- R16.2: what is printed of an answer is its word, the number of the refusal or 0, and the count.
 pub data AnswerWord : Type 0 where
-  Announced Kept Signed Delivered Refused : AnswerWord
+  Announced Kept Signed Delivered Noted Refused : AnswerWord
   deriving Discrete as AnswerWord-discrete
 
 pub data PlayRow : Type 0 where
@@ -66,6 +66,7 @@ abbrev pub receiptRow : Receipt.Receipt → PlayRow
 receiptRow (Receipt.the-variants.Kept count) = playRow Kept 0 (receiptCount (Receipt.the-variants.Kept count))
 receiptRow (Receipt.the-variants.Signed count) = playRow Signed 0 (receiptCount (Receipt.the-variants.Signed count))
 receiptRow (Receipt.the-variants.Delivered count) = playRow Delivered 0 (receiptCount (Receipt.the-variants.Delivered count))
+receiptRow (Receipt.the-variants.Noted count) = playRow Noted 0 (receiptCount (Receipt.the-variants.Noted count))
 receiptRow (Receipt.the-variants.Refused reason) = playRow Refused (numberOf reason) (receiptCount (Receipt.the-variants.Refused reason))
 
 -- a step with its node and the row that is printed for it

@@ -14,7 +14,7 @@ use Rattle.signers.specs.Sets.{NodeSet, count, both}
 use Rattle.config.specs.declared.Config.{Config}
 use Rattle.config.specs.Config.{configFor, good, recordSize, recordsSize}
 use Rattle.bundle.specs.Bundle.{bundleSize, bundleOf, headerOfDay}
-use Rattle.protocol.specs.Update.{Held}
+use Rattle.protocol.specs.Update.{Nothing, Held}
 use Rattle.protocol.specs.Trace.{Trace, start, _then_calls_}
 use Rattle.record.specs.Record.{encoding}
 use Rattle.system.specs.Demand3.{Call, Open, Broadcast, Receive, System, configAt, correct, correctCount, NearlyAll, opens, sendsThis, reaches, buffer, ever, called, Unforged, Lawful, Assumed, Agreement, DeliversOnce, Reached, Delivery}
@@ -165,7 +165,7 @@ OpenOnceTight =
 -- Node 0 opens the day and announces, and its bundle reaches both nodes. Node 1 does not open the day. Its buffer has bytes from before: in the first slot of node 0 a
 -- record of another payload, well-formed, as if node 0 had announced it and node 1 had signed it. Too few deliver the announcement.
 unfoldable pub leftOver : System
-leftOver = pair (encoding (Held 3 second) ++ replicate (recordsSize twoNodes - recordSize) 0)
+leftOver = pair (encoding (Held 3 second Nothing) ++ replicate (recordsSize twoNodes - recordSize) 0)
 
 unfoldable pub neverOpened : Trace Call
 neverOpened =

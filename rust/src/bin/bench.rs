@@ -4,16 +4,17 @@
 //! counted by callgrind, in the called functions alone, and do not depend on what else the machine does.
 
 use mbrb::random::Random;
-use mbrb::reference::least_quorum;
+use mbrb::reference::{least_quorum, RECORD_LENGTH, SEQS};
 use mbrb::{host, reference, Config};
 use std::hint::black_box;
 use std::process::Command;
 use std::time::Instant;
 
 const DAY: u32 = 7;
-const SLOTS: u8 = 16;
-/// How many calls a row has at least, but for openings. Their buffers together fit a second-level cache.
+/// How many calls a row has at least, but for those that are about a whole buffer. The buffers together fit a second-level cache.
 const CALLS: usize = 1024;
+/// How many bytes the buffers of such a row have together, whichever n.
+const BUFFERS: usize = 512 << 10;
 const ROUNDS: usize = 401;
 
 #[inline(always)]
@@ -130,12 +131,16 @@ struct Row {
     buffers: Vec<Vec<u8>>,
 }
 
-/// A record's state, and how many signers it has.
+/// A record's state, and how many signers its payload has.
 #[derive(Clone, Copy)]
 enum Found {
     Empty,
     Held(u32),
     Delivered(u32),
+    /// Another payload is held than the bundle's.
+    HeldOther(u32),
+    /// The same, and the bundle's payload is noted, with its sender's signature alone.
+    Noted(u32),
 }
 
 /// With the least quorum.
@@ -164,15 +169,25 @@ fn bundle(sender: u8, seq: u8, signers: u64, payload: &[u8; 16]) -> Vec<u8> {
     [&head[..], &signers.to_be_bytes(), payload].concat()
 }
 
+/// The payload is the one that comes, where the record is for one.
 fn record(config: &Config, sender: u8, found: Found, payload: &[u8; 16]) -> Vec<u8> {
-    let (state, count) = match found {
-        Found::Empty => return vec![0; 32],
-        Found::Held(count) => (1, count),
-        Found::Delivered(count) => (2, count),
+    let other = payload.map(|byte| !byte);
+    let (state, count, held) = match found {
+        Found::Empty => return vec![0; RECORD_LENGTH],
+        Found::Held(count) => (1, count, payload),
+        Found::Delivered(count) => (2, count, payload),
+        Found::HeldOther(count) | Found::Noted(count) => (1, count, &other),
     };
     let set = signers(config, sender, true, count);
-    let head = [state, 0, 0, 0, 0, 0, 0, 0];
-    [&head[..], &set.to_be_bytes(), payload].concat()
+    let mut record = vec![0; RECORD_LENGTH];
+    record[0] = state;
+    record[8..16].copy_from_slice(&set.to_be_bytes());
+    record[16..32].copy_from_slice(held);
+    if let Found::Noted(_) = found {
+        record[32..40].copy_from_slice(&(1_u64 << sender).to_be_bytes());
+        record[48..].copy_from_slice(payload);
+    }
+    record
 }
 
 /// Bundles received or previewed, one for each slot of the other senders: what they find, how many signers they bring, and what is
@@ -183,10 +198,10 @@ fn bundles(kind: Kind, name: String, n: u8, found: Found, brought: u32, code: u3
     let (mut calls, mut buffers) = (Vec::new(), Vec::new());
     while calls.len() < CALLS {
         let mut records = Vec::new();
-        for (sender, seq) in (0..n).flat_map(|sender| (0..SLOTS).map(move |seq| (sender, seq))) {
+        for (sender, seq) in (0..n).flat_map(|sender| (0..SEQS).map(move |seq| (sender, seq))) {
             let payload = payload(&mut random);
             if sender == config.own {
-                records.extend([0; 32]);
+                records.extend([0; RECORD_LENGTH]);
                 continue;
             }
             records.extend(record(&config, sender, found, &payload));
@@ -218,7 +233,7 @@ fn broadcasts(name: &str, n: u8, used: u8, found: Found) -> Row {
         let mut records = Vec::new();
         for own in 0..n {
             let config = config_of(n, own);
-            for seq in 0..SLOTS {
+            for seq in 0..SEQS {
                 let found = if seq < used { found } else { Found::Empty };
                 records.extend(record(&config, own, found, &payload(&mut random)));
             }
@@ -230,7 +245,7 @@ fn broadcasts(name: &str, n: u8, used: u8, found: Found) -> Row {
         }
         buffers.push(records);
     }
-    let code = if used < SLOTS {
+    let code = if used < SEQS {
         200 + u32::from(used)
     } else {
         25
@@ -249,14 +264,13 @@ fn broadcasts(name: &str, n: u8, used: u8, found: Found) -> Row {
 fn openings(name: &str, n: u8) -> Row {
     let mut random = Random::new(3);
     let config = config_of(n, 1);
-    // Together they have 512 KiB, whichever n.
+    let length = config.records_length();
     let buffer = |_| {
-        let words = 64 * usize::from(n);
-        (0..words)
+        (0..length / 8)
             .flat_map(|_| random.word().to_ne_bytes())
             .collect()
     };
-    let buffers = (0..CALLS / usize::from(n)).map(buffer).collect();
+    let buffers = (0..BUFFERS / length).map(buffer).collect();
     once_each(name, Kind::Open, config, 0, buffers)
 }
 
@@ -271,10 +285,11 @@ fn setpoints(name: &str, n: u8) -> Row {
         record(&config, sender, Found::Delivered(config.quorum()), &payload)
     };
     let buffer = |_| {
-        let slots = (0..n).flat_map(|sender| [sender; SLOTS as usize]);
+        let slots = (0..n).flat_map(|sender| [sender; SEQS as usize]);
         slots.flat_map(&mut setpoint).collect()
     };
-    let buffers = (0..CALLS / usize::from(n)).map(buffer).collect();
+    let buffers = BUFFERS / config.records_length();
+    let buffers = (0..buffers).map(buffer).collect();
     once_each(name, Kind::Setpoint, config, 1 << 16, buffers)
 }
 
@@ -305,6 +320,9 @@ fn answers(kind: Kind, call: &str, n: u8) -> impl Iterator<Item = Row> + '_ {
         ("signed", Found::Empty, 1, 101),
         ("delivered", Found::Held(quorum - 1), quorum - 1, 102),
         ("22", Found::Delivered(quorum), quorum, 22),
+        ("noted", Found::HeldOther(2), 1, 103),
+        ("noted again", Found::Noted(2), 2, 103),
+        ("replaced", Found::HeldOther(2), quorum, 102),
     ]
     .into_iter()
     .map(move |(answer, found, brought, code)| {
@@ -318,7 +336,7 @@ fn rows() -> Vec<Row> {
         let announcing = [
             broadcasts("announcing: fresh day", n, 0, Found::Empty),
             broadcasts("announcing: number 15", n, 15, Found::Held(1)),
-            broadcasts("announcing: 25", n, SLOTS, delivered),
+            broadcasts("announcing: 25", n, SEQS, delivered),
         ];
         std::iter::once(openings("opening", n))
             .chain(answers(Kind::Receive, "taking", n))

@@ -45,9 +45,10 @@ fn row(system: &mut System, random: &mut Random) -> String {
     let sent = system.sent[random.below(system.sent.len())];
     let alone = 1 << sent.sender;
     let bundle = match random.below(16) {
+        // A second word of the sender, every other time the same one: it is noted, and others are refused then.
         0 => Bundle {
             signers: alone,
-            payload: payload(random),
+            payload: [!sent.payload, payload(random)][random.below(2)],
             ..sent
         },
         _ if sent.seq % 2 == 1 => Bundle {

@@ -2,6 +2,7 @@
 
 use crate::comparison::{Implementation, Kind};
 use mbrb::random::Random;
+use mbrb::reference::{RecordBytes, RECORD_LENGTH};
 use mbrb::Config;
 
 pub const CONFIG: Config = Config {
@@ -12,6 +13,8 @@ pub const CONFIG: Config = Config {
     day: 7,
     q: 3,
 };
+/// The length of the records under this config.
+pub const LENGTH: usize = 4096;
 const ROOM: usize = 64;
 
 /// One piece of memory with the three buffers of a call in it, apart from each other and from both ends.
@@ -75,8 +78,9 @@ pub fn bundle(signers: u8) -> [u8; 32] {
 
 /// Records among the program's constants, where a write ends the program. In the first, node 1 holds that bundle's payload, signed by
 /// the sender and itself; the others are empty.
-pub static CONSTANT: [[u8; 32]; 64] = {
-    let mut records = [[0; 32]; 64];
-    records[0] = *b"\x01\0\0\0\0\0\0\0\0\0\0\0\0\0\0\x03aaaaaaaaaaaaaaaa";
+pub static CONSTANT: [RecordBytes; 64] = {
+    let held = b"\x01\0\0\0\0\0\0\0\0\0\0\0\0\0\0\x03aaaaaaaaaaaaaaaa";
+    let mut records = [[0; RECORD_LENGTH]; 64];
+    records[0].split_at_mut(held.len()).0.copy_from_slice(held);
     records
 };

@@ -1,5 +1,6 @@
 //! One call given to two implementations, and what to show if they differ.
 
+use mbrb::reference::{RecordBytes, RECORD_LENGTH, SENDER_LENGTH};
 use mbrb::{host, reference, Config};
 use std::fmt;
 
@@ -39,7 +40,7 @@ pub enum Kind {
 
 /// Where the slot's record starts.
 pub fn place(sender: u8, seq: u8) -> usize {
-    32 * (16 * usize::from(sender) + usize::from(seq))
+    SENDER_LENGTH * usize::from(sender) + RECORD_LENGTH * usize::from(seq)
 }
 
 /// What a call gets besides the records' content.
@@ -61,11 +62,11 @@ impl Case {
     pub fn concerned(&self) -> (usize, usize) {
         let Config { n, own, .. } = self.config;
         match (self.kind, self.input.get(4), self.input.get(5)) {
-            (Kind::Broadcast, ..) if own < n => (place(own, 0), 512),
+            (Kind::Broadcast, ..) if own < n => (place(own, 0), SENDER_LENGTH),
             (Kind::Receive | Kind::Preview, Some(&sender), Some(&seq))
                 if sender < n && seq < 16 =>
             {
-                (place(sender, seq), 32)
+                (place(sender, seq), RECORD_LENGTH)
             }
             _ => (0, 0),
         }
@@ -111,7 +112,7 @@ pub struct Records {
 
 impl Records {
     pub fn zeroed(n: u8) -> Records {
-        let bytes = vec![0; 512 * (usize::from(n) + 1)];
+        let bytes = vec![0; SENDER_LENGTH * (usize::from(n) + 1)];
         Records {
             sides: [bytes.clone(), bytes.clone()],
             before: bytes.clone(),
@@ -123,13 +124,14 @@ impl Records {
         self.before.len()
     }
 
-    pub fn record(&self, place: usize) -> [u8; 32] {
-        self.sides[0][place..place + 32].try_into().expect("32")
+    pub fn record(&self, place: usize) -> RecordBytes {
+        let from_place = self.sides[0][place..].first_chunk();
+        *from_place.expect("a whole record")
     }
 
-    pub fn put(&mut self, place: usize, record: &[u8; 32]) {
+    pub fn put(&mut self, place: usize, record: &RecordBytes) {
         for side in &mut self.sides {
-            side[place..place + 32].copy_from_slice(record);
+            side[place..place + RECORD_LENGTH].copy_from_slice(record);
         }
     }
 }
@@ -220,8 +222,8 @@ impl Difference {
     fn places_to_show(&self) -> impl Iterator<Item = usize> + '_ {
         let (start, length) = self.case.concerned();
         let [one, other] = &self.records.sides;
-        (0..one.len()).step_by(32).filter(move |&place| {
-            let bytes = place..place + 32;
+        (0..one.len()).step_by(RECORD_LENGTH).filter(move |&place| {
+            let bytes = place..place + RECORD_LENGTH;
             (start..start + length).contains(&place) || one[bytes.clone()] != other[bytes]
         })
     }
@@ -239,8 +241,9 @@ impl fmt::Debug for Difference {
         writeln!(f, "  out: {} bytes lent", case.out_length)?;
         writeln!(f, "  codes: {} and {}", self.codes[0], self.codes[1])?;
         for place in self.places_to_show() {
-            let shown = |bytes: &[u8]| hex(&bytes[place..place + 32]);
-            let (sender, seq) = (place / 512, place / 32 % 16);
+            let shown = |bytes: &[u8]| hex(&bytes[place..place + RECORD_LENGTH]);
+            let sender = place / SENDER_LENGTH;
+            let seq = place % SENDER_LENGTH / RECORD_LENGTH;
             writeln!(f, "  record of sender {sender}, number {seq}")?;
             writeln!(f, "    before {}", shown(&self.records.before))?;
             writeln!(f, "    after  {}", shown(&self.records.sides[0]))?;

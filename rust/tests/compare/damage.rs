@@ -4,12 +4,12 @@ use crate::comparison::{Case, Kind};
 use crate::node::Node;
 use crate::quorums::bad_quorum;
 use crate::records::{choose, up_to};
-use mbrb::reference::least_quorum;
+use mbrb::reference::{least_quorum, SENDER_LENGTH};
 use mbrb::{random::Random, Config};
 
 /// Does one thing to a call that some refusal is about.
 pub fn damage(random: &mut Random, case: &mut Case, node: &Node) {
-    let length = 512 * usize::from(node.config.n);
+    let length = node.config.records_length();
     // Opening has a table and records alone.
     let kinds = match case.kind {
         Kind::Open => 2,
@@ -19,14 +19,16 @@ pub fn damage(random: &mut Random, case: &mut Case, node: &Node) {
     match random.below(kinds) {
         0 => {
             case.config = bad_config(random, node.config);
-            let right = 512 * usize::from(case.config.n);
+            let right = case.config.records_length();
             if random.once_in(2) && right <= node.records.room() {
                 case.records_length = right;
             }
         }
         1 => {
-            let lengths = [0, length - 512, length - 1, length + 1, length + 512];
-            case.records_length = lengths[random.below(5)];
+            // Half of it is what records without notes would have.
+            let (less, more) = (length - SENDER_LENGTH, length + SENDER_LENGTH);
+            let lengths = [0, length / 2, less, length - 1, length + 1, more];
+            case.records_length = lengths[random.below(6)];
         }
         2 => case.out_length = [0, 31, 33, 64][random.below(4)],
         3 => {

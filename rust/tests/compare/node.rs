@@ -2,6 +2,7 @@
 
 use crate::comparison::{place, Case, Kind, Records};
 use crate::records::{bytes, Clause, Slot, CLAUSES};
+use mbrb::reference::{RecordBytes, RECORD_LENGTH};
 use mbrb::{random::Random, Config};
 use std::collections::BTreeMap;
 
@@ -32,7 +33,7 @@ impl Node {
 
     /// Any bytes in the whole buffer, as before a day is opened.
     pub fn scramble(&mut self, random: &mut Random) {
-        for place in (0..self.records.room()).step_by(32) {
+        for place in (0..self.records.room()).step_by(RECORD_LENGTH) {
             self.records.put(place, &bytes(random));
         }
         self.forget();
@@ -44,7 +45,7 @@ impl Node {
         self.stages.clear();
     }
 
-    fn put(&mut self, place: usize, record: &[u8; 32], clause: Option<Clause>) {
+    fn put(&mut self, place: usize, record: &RecordBytes, clause: Option<Clause>) {
         self.records.put(place, record);
         self.stages.remove(&place);
         self.malformed.remove(&place);
@@ -97,7 +98,7 @@ impl Node {
         }
         let (start, _) = case.concerned();
         let (place, stage) = match code {
-            200..=215 => (start + 32 * (code as usize - 200), 1),
+            200..=215 => (start + RECORD_LENGTH * (code as usize - 200), 1),
             101 => (start, 1),
             100 => (start, 2),
             102 => (start, 3),

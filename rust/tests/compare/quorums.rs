@@ -3,7 +3,7 @@
 use crate::comparison::{Case, Kind};
 use crate::records::{bit, signers_of, up_to, Clause, DELIVERED};
 use crate::tally::Meets;
-use mbrb::{random::Random, Config};
+use mbrb::{random::Random, reference::RecordBytes, Config};
 use std::ops::RangeInclusive;
 
 /// The quorums that make a config good, which is good but for the one it has.
@@ -120,14 +120,14 @@ impl Edge {
 /// those that the call is about, as they were before it; `clause` is of the one that it finds malformed, if it does.
 pub fn edge(
     case: &Case,
-    records: &[[u8; 32]],
+    records: &[RecordBytes],
     clause: Option<Clause>,
     code: u32,
 ) -> Option<(Meets, Edge)> {
     if !Choice::is_stricter(&case.config) {
         return None;
     }
-    let delivered_with = |records: &[[u8; 32]], edge| {
+    let delivered_with = |records: &[RecordBytes], edge| {
         let mut delivered = records.iter().filter(|record| record[0] == DELIVERED);
         delivered
             .any(|record| Edge::of(&case.config, signers_of(record)) == Some(edge))
@@ -148,13 +148,12 @@ pub fn edge(
     }
 }
 
-fn signers_that_decide(case: &Case, record: &[u8; 32], meets: Meets) -> u64 {
-    let bundle = case.input[..].try_into().expect("a bundle that was read");
-    let (known, brought) = (signers_of(record), signers_of(bundle));
+fn signers_that_decide(case: &Case, record: &RecordBytes, meets: Meets) -> u64 {
+    let (known, brought) = (signers_of(record), signers_of(&case.input));
     match meets {
         Meets::Empty => brought | bit(case.config.own),
-        Meets::SamePayload => brought | known,
-        Meets::AnotherPayload => brought,
+        Meets::SamePayload | Meets::SamePayloadBesideNote => brought | known,
+        Meets::AnotherPayload | Meets::NotedPayload | Meets::ThirdPayload => brought,
         Meets::Delivered => known,
     }
 }

@@ -2,6 +2,7 @@
 //! well-formed. The rules call them sound and unsound.
 
 use crate::quorums::{allowed, any_of};
+use mbrb::reference::{RecordBytes, RECORD_LENGTH};
 use mbrb::{random::Random, Config};
 
 /// 0, the most, or anything between.
@@ -98,20 +99,41 @@ pub fn edge_count(random: &mut Random, config: &Config) -> u32 {
     count.clamp(1, n)
 }
 
-pub fn signers_of(record: &[u8; 32]) -> u64 {
-    u64::from_be_bytes(record[8..16].try_into().expect("8 bytes"))
+/// A payload that differs in a single bit.
+pub fn one_bit_off(random: &mut Random, mut payload: [u8; 16]) -> [u8; 16] {
+    payload[random.below(16)] ^= 1 << random.below(8);
+    payload
 }
 
-pub fn payload_of(record: &[u8; 32]) -> [u8; 16] {
-    record[16..].try_into().expect("16 bytes")
+/// Of a bundle, or of what a record holds or has delivered.
+pub fn signers_of(bytes: &[u8]) -> u64 {
+    u64::from_be_bytes(bytes[8..16].try_into().expect("8 bytes"))
 }
 
-pub fn encode(state: u8, signers: u64, payload: &[u8; 16]) -> [u8; 32] {
-    let mut record = [0; 32];
+pub fn payload_of(bytes: &[u8]) -> [u8; 16] {
+    bytes[16..32].try_into().expect("16 bytes")
+}
+
+pub fn noted_signers_of(record: &RecordBytes) -> u64 {
+    u64::from_be_bytes(record[32..40].try_into().expect("8 bytes"))
+}
+
+pub fn noted_payload_of(record: &RecordBytes) -> [u8; 16] {
+    record[48..].try_into().expect("16 bytes")
+}
+
+/// With nothing noted.
+pub fn encode(state: u8, signers: u64, payload: &[u8; 16]) -> RecordBytes {
+    let mut record = [0; RECORD_LENGTH];
     record[0] = state;
     record[8..16].copy_from_slice(&signers.to_be_bytes());
-    record[16..].copy_from_slice(payload);
+    record[16..32].copy_from_slice(payload);
     record
+}
+
+pub fn put_note(record: &mut RecordBytes, signers: u64, payload: &[u8; 16]) {
+    record[32..40].copy_from_slice(&signers.to_be_bytes());
+    record[48..].copy_from_slice(payload);
 }
 
 pub const EMPTY: u8 = 0;
@@ -119,16 +141,29 @@ pub const HELD: u8 = 1;
 pub const DELIVERED: u8 = 2;
 
 /// Whether a record is well-formed, by what the rules ask of it and not by how it was made.
-pub fn well_formed(config: &Config, sender: u8, record: &[u8; 32]) -> bool {
+pub fn well_formed(config: &Config, sender: u8, record: &RecordBytes) -> bool {
     let signers = signers_of(record);
     let has = |node| signers & bit(node) != 0;
     let state = match record[0] {
-        EMPTY => *record == [0; 32],
+        EMPTY => *record == [0; RECORD_LENGTH],
         HELD => has(sender) && has(config.own),
         DELIVERED => has(sender) && signers.count_ones() >= config.q,
         _ => false,
     };
-    state && record[1..8] == [0; 7] && signers & !config.mask() == 0
+    let first_half = state && record[1..8] == [0; 7] && signers & !config.mask() == 0;
+    first_half && well_noted(config, sender, record)
+}
+
+fn well_noted(config: &Config, sender: u8, record: &RecordBytes) -> bool {
+    let (signers, payload) = (noted_signers_of(record), noted_payload_of(record));
+    let allowed = match signers {
+        0 => payload == [0; 16],
+        _ => {
+            let from_sender = signers & bit(sender) != 0;
+            from_sender && signers & !config.mask() == 0 && payload != payload_of(record)
+        }
+    };
+    allowed && record[40..48] == [0; 8]
 }
 
 /// The slot whose record is made, and what it would hold.
@@ -140,11 +175,20 @@ pub struct Slot<'a> {
 }
 
 impl Slot<'_> {
-    pub fn well_formed(&self, random: &mut Random, state: u8) -> [u8; 32] {
+    /// In half of those that are not empty something is noted.
+    pub fn well_formed(&self, random: &mut Random, state: u8) -> RecordBytes {
+        let mut record = self.without_note(random, state);
+        if state != EMPTY && random.once_in(2) {
+            self.note(random, &mut record);
+        }
+        record
+    }
+
+    fn without_note(&self, random: &mut Random, state: u8) -> RecordBytes {
         let Config { n, own, .. } = *self.config;
         let (mask, quorum, sender) = (self.config.mask(), self.config.quorum(), bit(self.sender));
         let signers = match state {
-            EMPTY => return [0; 32],
+            EMPTY => return [0; RECORD_LENGTH],
             HELD => {
                 let count = edge_count(random, self.config);
                 fill_up(random, sender | bit(own), mask, count)
@@ -157,8 +201,26 @@ impl Slot<'_> {
         encode(state, signers, self.payload)
     }
 
+    /// Notes another payload than the record has.
+    fn note(&self, random: &mut Random, record: &mut RecordBytes) {
+        let first = payload_of(record);
+        let payload = match random.below(3) {
+            0 if first != [0; 16] => [0; 16],
+            1 => bytes(random),
+            _ => one_bit_off(random, first),
+        };
+        self.note_payload(random, record, &payload);
+    }
+
+    /// Notes the payload, with any signers that may be noted.
+    pub fn note_payload(&self, random: &mut Random, record: &mut RecordBytes, payload: &[u8; 16]) {
+        let (sender, count) = (bit(self.sender), edge_count(random, self.config));
+        let signers = fill_up(random, sender, self.config.mask(), count);
+        put_note(record, signers, payload);
+    }
+
     /// A record that is malformed by this clause alone. There is none where the config or the slot leaves no room for it.
-    pub fn malformed(&self, random: &mut Random, clause: Clause) -> Option<[u8; 32]> {
+    pub fn malformed(&self, random: &mut Random, clause: Clause) -> Option<RecordBytes> {
         match clause {
             Clause::State | Clause::ReservedByte | Clause::SignerOutOfRange => {
                 let state = 1 + random.below(2) as u8;
@@ -166,18 +228,23 @@ impl Slot<'_> {
                 self.spoilt(random, record, clause)
             }
             Clause::EmptyReservedByte | Clause::EmptySigners | Clause::EmptyPayload => {
-                self.spoilt(random, [0; 32], clause)
+                self.spoilt(random, [0; RECORD_LENGTH], clause)
             }
-            _ => self.badly_signed(random, clause),
+            Clause::HeldWithoutSender
+            | Clause::HeldWithoutOwn
+            | Clause::HeldWithoutEither
+            | Clause::DeliveredWithoutSender
+            | Clause::DeliveredBelowQuorum => self.badly_signed(random, clause),
+            _ => self.badly_noted(random, clause),
         }
     }
 
     fn spoilt(
         &self,
         random: &mut Random,
-        mut record: [u8; 32],
+        mut record: RecordBytes,
         clause: Clause,
-    ) -> Option<[u8; 32]> {
+    ) -> Option<RecordBytes> {
         let nonzero = 1 + random.below(255) as u8;
         match clause {
             Clause::State => record[0] = 3 + up_to(random, 252) as u8,
@@ -199,7 +266,7 @@ impl Slot<'_> {
         Some(record)
     }
 
-    fn badly_signed(&self, random: &mut Random, clause: Clause) -> Option<[u8; 32]> {
+    fn badly_signed(&self, random: &mut Random, clause: Clause) -> Option<RecordBytes> {
         let (sender, own) = (bit(self.sender), bit(self.config.own));
         let others = self.config.mask() & !sender & !own;
         let (quorum, count) = (self.config.quorum(), edge_count(random, self.config));
@@ -216,7 +283,55 @@ impl Slot<'_> {
                 (DELIVERED, signers, quorum > 1)
             }
         };
-        possible.then(|| encode(state, signers, self.payload))
+        let mut record = encode(state, signers, self.payload);
+        if random.once_in(2) {
+            self.note(random, &mut record);
+        }
+        possible.then_some(record)
+    }
+
+    /// By a clause of the noted half.
+    fn badly_noted(&self, random: &mut Random, clause: Clause) -> Option<RecordBytes> {
+        let state = match clause {
+            Clause::EmptyNote | Clause::EmptyNotedReservedByte | Clause::EmptyNotedPayload => EMPTY,
+            Clause::NotedHeldPayload => HELD,
+            Clause::NotedDeliveredPayload => DELIVERED,
+            _ => 1 + random.below(2) as u8,
+        };
+        let mut record = self.well_formed(random, state);
+        match clause {
+            Clause::NotedReservedByte | Clause::EmptyNotedReservedByte => {
+                record[40 + random.below(8)] = 1 + random.below(255) as u8;
+            }
+            Clause::NotedHeldPayload | Clause::NotedDeliveredPayload => {
+                self.note_payload(random, &mut record, self.payload);
+            }
+            _ => {
+                self.note(random, &mut record);
+                let (noted, payload) = (noted_signers_of(&record), noted_payload_of(&record));
+                let signers = self.noted_signers(random, clause, noted)?;
+                put_note(&mut record, signers, &payload);
+            }
+        }
+        // Zero signers of a zero payload are nothing noted.
+        Some(record).filter(|record| !well_formed(self.config, self.sender, record))
+    }
+
+    /// What the clause makes of noted signers.
+    fn noted_signers(&self, random: &mut Random, clause: Clause, noted: u64) -> Option<u64> {
+        let mask = self.config.mask();
+        match clause {
+            Clause::NotedWithoutSender => {
+                let others = choose(random, mask & !bit(self.sender), noted.count_ones());
+                (others != 0).then_some(others)
+            }
+            Clause::NotedSignerOutOfRange => {
+                let beyond = choose(random, !mask, 1);
+                (beyond != 0).then_some(noted | beyond)
+            }
+            Clause::NotedPayloadAlone | Clause::EmptyNotedPayload => Some(0),
+            _ => Some(noted),
+        }
     }
 }
 
@@ -234,9 +349,21 @@ pub enum Clause {
     HeldWithoutEither,
     DeliveredWithoutSender,
     DeliveredBelowQuorum,
+    /// one of the bytes between noted signers and noted payload, whether something is noted or not
+    NotedReservedByte,
+    NotedSignerOutOfRange,
+    NotedWithoutSender,
+    /// without any signer
+    NotedPayloadAlone,
+    NotedHeldPayload,
+    NotedDeliveredPayload,
+    /// a note that would be well-formed beside a payload
+    EmptyNote,
+    EmptyNotedReservedByte,
+    EmptyNotedPayload,
 }
 
-pub const CLAUSES: [Clause; 11] = [
+pub const CLAUSES: [Clause; 20] = [
     Clause::State,
     Clause::ReservedByte,
     Clause::SignerOutOfRange,
@@ -248,4 +375,13 @@ pub const CLAUSES: [Clause; 11] = [
     Clause::HeldWithoutEither,
     Clause::DeliveredWithoutSender,
     Clause::DeliveredBelowQuorum,
+    Clause::NotedReservedByte,
+    Clause::NotedSignerOutOfRange,
+    Clause::NotedWithoutSender,
+    Clause::NotedPayloadAlone,
+    Clause::NotedHeldPayload,
+    Clause::NotedDeliveredPayload,
+    Clause::EmptyNote,
+    Clause::EmptyNotedReservedByte,
+    Clause::EmptyNotedPayload,
 ];

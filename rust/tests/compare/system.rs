@@ -5,10 +5,10 @@ use crate::comparison::{place, Case, Kind};
 use crate::damage::damage;
 use crate::node::Node;
 use crate::records::{
-    bit, bytes, choose, edge_count, fill_up, good_config, payload_of, signers_of, up_to, DELIVERED,
-    EMPTY, HELD,
+    bit, bytes, choose, edge_count, fill_up, good_config, noted_payload_of, noted_signers_of,
+    one_bit_off, payload_of, signers_of, up_to, DELIVERED, EMPTY, HELD,
 };
-use mbrb::{random::Random, Config};
+use mbrb::{random::Random, reference::RecordBytes, Config};
 
 pub struct System {
     pub nodes: Vec<Node>,
@@ -49,7 +49,7 @@ impl System {
 
     fn new_slot(&self, random: &mut Random) -> (u8, u8) {
         let Config { n, own, .. } = self.nodes[random.below(self.nodes.len())].config;
-        let sender = if random.once_in(3) {
+        let sender = if random.once_in(5) {
             own
         } else {
             up_to(random, usize::from(n) - 1) as u8
@@ -85,10 +85,10 @@ impl System {
     fn put_record(&mut self, random: &mut Random, node: usize, at: (u8, u8)) {
         let payload = self.payload(random);
         let node = &mut self.nodes[node];
-        match random.below(10) {
-            0..=3 => node.put_well_formed(random, at, EMPTY, &payload),
-            4..=7 => node.put_well_formed(random, at, HELD, &payload),
-            8 => node.put_well_formed(random, at, DELIVERED, &payload),
+        match random.below(12) {
+            0..=2 => node.put_well_formed(random, at, EMPTY, &payload),
+            3..=8 => node.put_well_formed(random, at, HELD, &payload),
+            9 => node.put_well_formed(random, at, DELIVERED, &payload),
             _ => node.put_malformed(random, at, &payload),
         }
     }
@@ -103,7 +103,7 @@ impl System {
             kind: Kind::Open,
             config: node.config,
             input: Vec::new(),
-            records_length: 512 * usize::from(node.config.n),
+            records_length: node.config.records_length(),
             out: bytes(random),
             out_length: 32,
         }
@@ -111,7 +111,7 @@ impl System {
 
     /// Now and then another record replaces one of those in use: most slots are delivered soon, and answer nothing new then.
     pub fn disturb(&mut self, random: &mut Random) {
-        if !random.once_in(8) {
+        if !random.once_in(6) {
             return;
         }
         let node = random.below(self.nodes.len());
@@ -165,14 +165,14 @@ impl System {
             kind,
             config: node.config,
             input,
-            records_length: 512 * usize::from(node.config.n),
+            records_length: node.config.records_length(),
             out: bytes(random),
             out_length: 32,
         }
     }
 
     fn bundle(&self, random: &mut Random, node: &Node) -> [u8; 32] {
-        if !self.sent.is_empty() && random.once_in(3) {
+        if !self.sent.is_empty() && random.once_in(4) {
             return self.sent[random.below(self.sent.len())];
         }
         let (sender, seq) = if random.once_in(12) {
@@ -192,20 +192,18 @@ impl System {
         bundle
     }
 
-    /// The record's own payload, one that differs in a single bit, or another.
-    fn payload_near(&self, random: &mut Random, record: &[u8; 32]) -> [u8; 16] {
-        match random.below(10) {
+    /// The record's own payload, the noted one, one that differs from either in a single bit, or another.
+    fn payload_near(&self, random: &mut Random, record: &RecordBytes) -> [u8; 16] {
+        let noted = noted_signers_of(record) != 0;
+        match random.below(12) {
             _ if record[0] == EMPTY => self.payload(random),
-            0..=4 => payload_of(record),
-            5 => one_bit_off(random, payload_of(record)),
+            0..=2 => payload_of(record),
+            3..=6 if noted => noted_payload_of(record),
+            7 if noted => one_bit_off(random, noted_payload_of(record)),
+            8 => one_bit_off(random, payload_of(record)),
             _ => self.payload(random),
         }
     }
-}
-
-fn one_bit_off(random: &mut Random, mut payload: [u8; 16]) -> [u8; 16] {
-    payload[random.below(16)] ^= 1 << random.below(8);
-    payload
 }
 
 fn payloads(random: &mut Random) -> [[u8; 16]; 3] {
@@ -218,24 +216,34 @@ fn payloads(random: &mut Random) -> [[u8; 16]; 3] {
     [first, second, third]
 }
 
-/// Signers with the sender among them: an edge count of them, in the bundle alone or together with those of the record.
+/// Signers with the sender among them: an edge count of them, in the bundle alone or together with those that the record has beside the
+/// payload, or beside its own if it has not got it.
 fn signers_near(
     random: &mut Random,
     config: &Config,
     sender: u8,
-    record: &[u8; 32],
+    record: &RecordBytes,
     payload: &[u8; 16],
 ) -> u64 {
     let holds = record[0] == HELD && payload_of(record) == *payload;
+    let notes = noted_signers_of(record) != 0 && noted_payload_of(record) == *payload;
     let own = bit(config.own);
     let with_own = random.once_in(if holds { 2 } else { 8 });
     let fixed = bit(sender) | if with_own { own } else { 0 };
     let others = config.mask() & !own;
-    let count = edge_count(random, config);
+    // Another payload than the held one is noted or refused below a quorum, and from there on delivered.
+    let count = match record[0] == HELD && !holds && random.once_in(3) {
+        true => config.quorum() - random.below(2) as u32,
+        false => edge_count(random, config),
+    };
     if random.once_in(2) {
         return fill_up(random, fixed, others, count);
     }
-    let known = signers_of(record) & config.mask();
+    let known = match notes {
+        true => noted_signers_of(record),
+        false => signers_of(record),
+    };
+    let known = known & config.mask();
     let further = count.saturating_sub((known | fixed).count_ones());
     fixed | known & others & random.word() | choose(random, others & !known & !fixed, further)
 }

@@ -1,8 +1,12 @@
 //! How often each code was seen, and from what.
 
 use crate::comparison::{Case, Kind};
+use crate::notes::{Noting, Unusual, NOTINGS, UNUSUAL};
 use crate::quorums::{edge, Choice, Edge, CHOICES};
-use crate::records::{Clause, CLAUSES, DELIVERED, EMPTY, HELD};
+use crate::records::{
+    noted_payload_of, noted_signers_of, payload_of, Clause, CLAUSES, DELIVERED, EMPTY, HELD,
+};
+use mbrb::reference::RecordBytes;
 use std::collections::BTreeMap;
 use std::fmt;
 
@@ -11,19 +15,37 @@ use std::fmt;
 pub enum Meets {
     Empty,
     SamePayload,
+    SamePayloadBesideNote,
+    /// with nothing noted
     AnotherPayload,
+    /// that very one is noted
+    NotedPayload,
+    /// neither held nor noted, and another one is noted
+    ThirdPayload,
     Delivered,
 }
 
 impl Meets {
-    pub fn of(case: &Case, record: &[u8; 32]) -> Option<Meets> {
-        let same = record.get(16..) == case.input.get(16..);
+    pub fn of(case: &Case, record: &RecordBytes) -> Option<Meets> {
         match record[0] {
             EMPTY => Some(Meets::Empty),
-            HELD if same => Some(Meets::SamePayload),
-            HELD => Some(Meets::AnotherPayload),
+            HELD => Some(Meets::held(&payload_of(&case.input), record)),
             DELIVERED => Some(Meets::Delivered),
             _ => None,
+        }
+    }
+
+    fn held(payload: &[u8; 16], record: &RecordBytes) -> Meets {
+        let (same, noted) = (
+            payload_of(record) == *payload,
+            noted_signers_of(record) != 0,
+        );
+        match noted_payload_of(record) == *payload {
+            _ if same && noted => Meets::SamePayloadBesideNote,
+            _ if same => Meets::SamePayload,
+            _ if !noted => Meets::AnotherPayload,
+            true => Meets::NotedPayload,
+            false => Meets::ThirdPayload,
         }
     }
 }
@@ -39,6 +61,10 @@ pub struct Tally {
     meetings: BTreeMap<(Kind, Meets, u32), u64>,
     /// calls accepted, and others refused by 1, by the quorum of a config that is good otherwise
     quorums: BTreeMap<(Kind, Choice, bool), u64>,
+    /// answers noted, by what joins the note
+    notes: BTreeMap<(Kind, Noting), u64>,
+    /// well-formed records, by what a stricter rule would forbid of their notes
+    unusual: BTreeMap<(Kind, Unusual), u64>,
     /// calls that a quorum stricter than the least decides by one signer; every code of announcing is 200 here
     edges: BTreeMap<(Kind, Meets, Edge, u32), u64>,
     /// slots signed, kept, delivered and then refused at one node, all by calls
@@ -76,10 +102,22 @@ impl Tally {
                 let key = (case.kind, meets, code);
                 *self.meetings.entry(key).or_default() += 1;
             }
+            self.count_notes(case, &records[0], code);
         }
         if let Some((meets, edge)) = edge(case, records, clause, code) {
             let key = (case.kind, meets, edge, code.min(200));
             *self.edges.entry(key).or_default() += 1;
+        }
+    }
+
+    /// Of a record that a bundle finds well-formed.
+    fn count_notes(&mut self, case: &Case, record: &RecordBytes, code: u32) {
+        if code == NOTED {
+            let key = (case.kind, Noting::of(case, record));
+            *self.notes.entry(key).or_default() += 1;
+        }
+        for unusual in UNUSUAL.into_iter().filter(|kind| kind.is_in(case, record)) {
+            *self.unusual.entry((case.kind, unusual)).or_default() += 1;
         }
     }
 
@@ -104,6 +142,8 @@ impl Tally {
         assert_seen("malformed by", &self.clauses, clauses, least);
         let meetings = of_bundles(MEETINGS).map(|(kind, (meets, code))| (kind, meets, code));
         assert_seen("record and code", &self.meetings, meetings, least);
+        assert_seen("noted", &self.notes, of_bundles(NOTINGS), least);
+        assert_seen("unusual note", &self.unusual, of_bundles(UNUSUAL), least);
         let quorums = KINDS
             .into_iter()
             .flat_map(|kind| CHOICES.map(|choice| (kind, choice, choice.is_allowed())));
@@ -139,29 +179,46 @@ const OPEN_CODES: [u32; 3] = [0, 1, 20];
 
 const BROADCAST_CODES: [u32; 6] = [1, 9, 10, 20, 21, 25];
 
-const BUNDLE_CODES: [u32; 17] = [
-    1, 2, 3, 4, 5, 6, 7, 8, 10, 20, 21, 22, 23, 24, 100, 101, 102,
+const NOTED: u32 = 103;
+
+const BUNDLE_CODES: [u32; 18] = [
+    1, 2, 3, 4, 5, 6, 7, 8, 10, 20, 21, 22, 23, 24, 100, 101, 102, NOTED,
 ];
 
-const MEETINGS: [(Meets, u32); 9] = [
+/// In the order of what is met, and of the codes.
+pub const MEETINGS: [(Meets, u32); 17] = [
     (Meets::Empty, 23),
     (Meets::Empty, 101),
     (Meets::Empty, 102),
     (Meets::SamePayload, 100),
     (Meets::SamePayload, 102),
+    (Meets::SamePayloadBesideNote, 100),
+    (Meets::SamePayloadBesideNote, 102),
     (Meets::AnotherPayload, 23),
-    (Meets::AnotherPayload, 24),
     (Meets::AnotherPayload, 102),
+    (Meets::AnotherPayload, NOTED),
+    (Meets::NotedPayload, 23),
+    (Meets::NotedPayload, 102),
+    (Meets::NotedPayload, NOTED),
+    (Meets::ThirdPayload, 23),
+    (Meets::ThirdPayload, 24),
+    (Meets::ThirdPayload, 102),
     (Meets::Delivered, 22),
 ];
 
-const EDGES: [(Meets, Edge, u32); 8] = [
+const EDGES: [(Meets, Edge, u32); 14] = [
     (Meets::Empty, Edge::OneShort, 101),
     (Meets::Empty, Edge::Enough, 102),
     (Meets::SamePayload, Edge::OneShort, 100),
     (Meets::SamePayload, Edge::Enough, 102),
-    (Meets::AnotherPayload, Edge::OneShort, 24),
+    (Meets::SamePayloadBesideNote, Edge::OneShort, 100),
+    (Meets::SamePayloadBesideNote, Edge::Enough, 102),
+    (Meets::AnotherPayload, Edge::OneShort, NOTED),
     (Meets::AnotherPayload, Edge::Enough, 102),
+    (Meets::NotedPayload, Edge::OneShort, NOTED),
+    (Meets::NotedPayload, Edge::Enough, 102),
+    (Meets::ThirdPayload, Edge::OneShort, 24),
+    (Meets::ThirdPayload, Edge::Enough, 102),
     (Meets::Delivered, Edge::OneShort, 21),
     (Meets::Delivered, Edge::Enough, 22),
 ];
@@ -211,6 +268,18 @@ impl fmt::Display for Tally {
         )?;
         show(
             f,
+            "answers noted, by what joins the note",
+            &self.notes,
+            |(kind, noting)| format!("{kind:?} {noting:?}"),
+        )?;
+        show(
+            f,
+            "well-formed records, by what looks wrong in their notes",
+            &self.unusual,
+            |(kind, unusual)| format!("{kind:?} {unusual:?}"),
+        )?;
+        show(
+            f,
             "quorum of the config, and whether it is accepted",
             &self.quorums,
             |(kind, choice, accepted)| {
@@ -248,7 +317,7 @@ fn show<Key>(
 ) -> fmt::Result {
     writeln!(f, "{title}")?;
     for (key, count) in counts {
-        writeln!(f, "  {:34}{count:>9}", name(key))?;
+        writeln!(f, "  {:45}{count:>9}", name(key))?;
     }
     Ok(())
 }

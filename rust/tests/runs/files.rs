@@ -110,7 +110,7 @@ fn row(system: &mut System, speaker: Option<u8>, random: &mut Random) -> String 
         return system.broadcast(speaker.unwrap_or(node), payload(random));
     }
     let sent = system.sent[random.below(system.sent.len())];
-    match random.below(16) {
+    match random.below(18) {
         0..=6 => system.receive(node, sent),
         7..=9 => system.receive(node, with_all_signers(system, sent)),
         10 => {
@@ -129,7 +129,21 @@ fn row(system: &mut System, speaker: Option<u8>, random: &mut Random) -> String 
             system.receive(node, bundle)
         }
         13 | 14 => system.receive(node, out_of_range(n, sent, random)),
+        15 | 16 => system.receive(node, beside(system, sent, node, random)),
         _ => nonsense(random),
+    }
+}
+
+/// Another payload in the slot of one that was sent, signed by some without this node. It is one of two, mostly the same: so that one is
+/// noted, comes again with further signers, and leaves no room for the other.
+fn beside(system: &System, sent: Bundle, node: u8, random: &mut Random) -> Bundle {
+    let payload = sent.payload ^ [1, 1, 1, 2][random.below(4)];
+    let some = random.word() & random.word() & system.config.mask();
+    let signers = some & !(1 << node) | 1 << sent.sender;
+    Bundle {
+        signers,
+        payload,
+        ..sent
     }
 }
 

@@ -8,11 +8,12 @@ use std::fmt;
 
 /// Besides, each refusal that can occur in a run: its tables, days, lengths and records are always right. And each percent, by the number of
 /// nodes and of those that delivered.
-const WORDS: [&str; 8] = [
+const WORDS: [&str; 9] = [
     "announced 0",
     "kept 0",
     "signed 0",
     "delivered 0",
+    "noted 0",
     "unread 0",
     "no table",
     "over-long row",

@@ -3,10 +3,11 @@
 use crate::expected;
 use crate::heads::{nodes_of, numbers, quorums, NAMES, NAMES_WITHOUT_QUORUM};
 use crate::percents::PERCENTS;
+use std::collections::BTreeMap;
 
 type Player = fn(&[u8]) -> Vec<u8>;
 
-pub const PLAYERS: [(&str, Player); 30] = [
+pub const PLAYERS: [(&str, Player); 37] = [
     ("percent rounded up", |input| {
         with_last_rows(input, |nodes, n| (100 * nodes).div_ceil(n))
     }),
@@ -49,6 +50,43 @@ pub const PLAYERS: [(&str, Player); 30] = [
                 fields[4] = "24".to_owned();
             }
         })
+    }),
+    ("another word in place of noted", |input| {
+        edit_answers(input, |fields| {
+            if fields[3] == "noted" {
+                fields[3] = "kept".to_owned();
+            }
+        })
+    }),
+    ("refused in place of noted", |input| {
+        edit_answers(input, |fields| {
+            if fields[3] == "noted" {
+                fields[3..].clone_from_slice(&["refused", "24", "0"].map(str::to_owned));
+            }
+        })
+    }),
+    ("reason 24 beside noted", |input| {
+        edit_answers(input, |fields| {
+            if fields[3] == "noted" {
+                fields[4] = "24".to_owned();
+            }
+        })
+    }),
+    ("no count beside noted", |input| {
+        edit_answers(input, |fields| {
+            if fields[3] == "noted" {
+                fields[5] = "0".to_owned();
+            }
+        })
+    }),
+    ("the count of the held signers beside noted", |input| {
+        with_noted_counts(input, |held, _, _| held)
+    }),
+    ("the count of the bundle's signers beside noted", |input| {
+        with_noted_counts(input, |_, brought, _| brought)
+    }),
+    ("the counts of held and noted signers together", |input| {
+        with_noted_counts(input, |held, _, noted| held + noted)
     }),
     ("leading zeros accepted", |input| {
         expected(&edit_fields(input, |field| {
@@ -245,6 +283,36 @@ fn edit_answers(input: &[u8], mut edit: impl FnMut(&mut [String])) -> Vec<u8> {
     edit_printed(input, |fields| {
         if fields.len() == 6 && fields[0] != "line" {
             edit(fields);
+        }
+    })
+}
+
+/// The right output with other counts beside noted, from the counts of the held signers, of the bundle's and of the noted ones.
+fn with_noted_counts(input: &[u8], count: impl Fn(u32, u32, u32) -> u32) -> Vec<u8> {
+    let text = String::from_utf8_lossy(input);
+    let rows: Vec<Vec<_>> = text
+        .split('\n')
+        .skip(3)
+        .map(|row| row.split(' ').collect())
+        .collect();
+    let (mut announced, mut held) = (BTreeMap::new(), BTreeMap::new());
+    edit_answers(input, |fields| {
+        let place: usize = fields[0].parse().expect("a place");
+        let printed: u32 = fields[5].parse().expect("a count");
+        let row = &rows[place - 1];
+        match fields[3].as_str() {
+            "announced" => {
+                let numbers = announced.entry(row[1]).or_insert(0);
+                held.insert([row[1], row[1], &numbers.to_string()].join(" "), printed);
+                *numbers += 1;
+            }
+            "signed" | "kept" | "delivered" => _ = held.insert(row[1..4].join(" "), printed),
+            "noted" => {
+                let brought = u64::from_str_radix(row[4], 16).expect("signers");
+                let held = held[&row[1..4].join(" ")];
+                fields[5] = count(held, brought.count_ones(), printed).to_string();
+            }
+            _ => {}
         }
     })
 }

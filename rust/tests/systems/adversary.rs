@@ -26,6 +26,8 @@ pub struct Adversary {
     payloads: [Payload; 3],
     /// the correct nodes that are shown the second payload
     shown_second: u64,
+    /// They set any correct node's bit, which they cannot do.
+    pub forging: bool,
 }
 
 impl Adversary {
@@ -50,6 +52,7 @@ impl Adversary {
             slots: (0..count).map(&mut slot).collect(),
             payloads,
             shown_second,
+            forging: false,
         }
     }
 
@@ -64,7 +67,7 @@ impl Adversary {
             Strategy::Mixture => self.mixture(run, random),
             Strategy::Honest => self.honest(run, random),
         };
-        if let Some(bundle) = bundle.filter(|bundle| run.permits(bundle)) {
+        if let Some(bundle) = bundle.filter(|bundle| self.forging || run.permits(bundle)) {
             run.receive(node, &bundle, mostly(32, random));
         }
     }
@@ -80,7 +83,7 @@ impl Adversary {
         let slot = *self.some_slot(random)?;
         let second = (self.shown_second & bit(node) != 0) != random.once_in(cross);
         let payload = self.payloads[usize::from(second)];
-        Some(forged(run, slot, payload, random).bundle().to_vec())
+        Some(self.signed(run, slot, payload, random).bundle().to_vec())
     }
 
     fn mixture(&self, run: &Run, random: &mut Random) -> Option<Vec<u8>> {
@@ -94,7 +97,7 @@ impl Adversary {
             Some(sent) if random.once_in(2) => sent.payload,
             _ => self.payloads[random.below(3)],
         };
-        Some(forged(run, slot, payload, random).bundle().to_vec())
+        Some(self.signed(run, slot, payload, random).bundle().to_vec())
     }
 
     fn honest(&self, run: &Run, random: &mut Random) -> Option<Vec<u8>> {
@@ -112,13 +115,32 @@ impl Adversary {
         Some(fields.bundle().to_vec())
     }
 
-    /// A bundle that was sent or forged, with damage.
+    /// A bundle that was sent or made up, with damage.
     fn garbage(&self, run: &Run, random: &mut Random) -> Option<Vec<u8>> {
         let bundle = match some(&run.sent, random) {
             Some(sent) => sent.to_vec(),
             None => self.mixture(run, random)?,
         };
         Some(damaged(bundle, random))
+    }
+
+    /// A bundle for the slot and payload with signatures that exist: mostly all of them, now and then some or none.
+    fn signed(&self, run: &Run, slot: Slot, payload: Payload, random: &mut Random) -> Fields {
+        let existing = match self.forging {
+            true => run.system.correct(),
+            false => run.signers(slot, payload),
+        };
+        let mut share = |nodes: u64| match random.below(6) {
+            0 => 0,
+            1 => nodes & random.word(),
+            _ => nodes,
+        };
+        let sender = (existing | run.system.faulty) & bit(slot.sender);
+        Fields {
+            slot,
+            signers: share(existing) | share(run.system.faulty) | sender,
+            payload,
+        }
     }
 
     /// A slot of a faulty sender, if there is one.
@@ -149,22 +171,6 @@ fn strategy(system: &System, quorum: u32, random: &mut Random) -> (Strategy, u64
         6..=7 => (Strategy::Mixture, 0),
         8 => (Strategy::Silent, 0),
         _ => (Strategy::Honest, 0),
-    }
-}
-
-/// A bundle for the slot and payload with signatures that exist: mostly all of them, now and then some or none.
-fn forged(run: &Run, slot: Slot, payload: Payload, random: &mut Random) -> Fields {
-    let existing = run.signers(slot, payload);
-    let mut share = |nodes: u64| match random.below(6) {
-        0 => 0,
-        1 => nodes & random.word(),
-        _ => nodes,
-    };
-    let sender = (existing | run.system.faulty) & bit(slot.sender);
-    Fields {
-        slot,
-        signers: share(existing) | share(run.system.faulty) | sender,
-        payload,
     }
 }
 

@@ -3,11 +3,11 @@
 use crate::adversary::Adversary;
 use crate::chance::{mostly, mostly_the_most, pick, pick_some};
 use crate::network::Network;
-use crate::run::Run;
+use crate::run::{Receive, Run};
 use crate::setpoints::setpoint;
-use crate::trace::{Payload, Step, System};
+use crate::trace::{Payload, System};
 use mbrb::random::Random;
-use mbrb::Config;
+use mbrb::{host, Config};
 
 /// The quorum that the nodes go by.
 #[derive(Clone, Copy, Debug)]
@@ -40,6 +40,9 @@ pub struct Rules {
     /// Every list goes on until each sending has reached enough nodes.
     pub always_drained: bool,
     pub announced: Announced,
+    /// The faulty nodes set any correct node's bit, which no list of demand 3 has.
+    pub forging: bool,
+    pub receive: Receive,
 }
 
 /// The rules of demand 3.
@@ -49,12 +52,9 @@ pub const LAWFUL: Rules = Rules {
     tables: &[],
     always_drained: false,
     announced: Announced::Few,
+    forging: false,
+    receive: host::receive,
 };
-
-pub fn list(rules: Rules, seed: u64) -> (System, Vec<Step>) {
-    let run = played(rules, seed);
-    (run.system, run.trace)
-}
 
 /// The system at the end of the list.
 pub fn played(rules: Rules, seed: u64) -> Run {
@@ -131,9 +131,11 @@ fn play(system: System, rules: Rules, random: &mut Random) -> Run {
         Announced::Few => Payloads::few(random),
         Announced::Setpoints => Payloads::setpoints(random),
     };
-    let mut run = Run::new(system, given_table(&system, rules), random);
-    let quorum = run.config(0).quorum();
-    let adversary = Adversary::new(&system, quorum, payloads.faulty, random);
+    let table = given_table(&system, rules);
+    let mut run = Run::new(system, table, rules.receive, random);
+    let quorum = table.quorum();
+    let mut adversary = Adversary::new(&system, quorum, payloads.faulty, random);
+    adversary.forging = rules.forging;
     let missed = u32::from(system.d) + rules.missed_more;
     let mut network = match rules.always_drained || random.once_in(2) {
         true => Network::draining(&system, missed, random),

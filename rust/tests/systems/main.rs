@@ -3,6 +3,8 @@
 //! A list of calls comes from a seed, with any quorum that its table may have; its conclusions are checked from the list alone. The same
 //! checks see violations where the quorum is one less than the least or one more than the most, and where one correct node more than d
 //! misses each sending. On a twentieth as many lists the nodes announce setpoints, and what each makes of them at the end is checked.
+//! What the records hold at the end of each list is checked too: whose bits stand beside a payload, noted ones included, and whose slots
+//! have a note. Those checks fail where signatures are forged, and where bundles are taken wrongly.
 //!
 //! MBRB_LISTS sets how many lists there are, MBRB_SEED the first one's seed.
 
@@ -11,15 +13,20 @@ mod chance;
 mod demand3;
 mod lists;
 mod network;
+mod notes;
 mod run;
 mod setpoints;
 mod tally;
 mod trace;
+mod wrong_notes;
 
 use demand3::{Conclusion, History, Violation};
-use lists::{list, played, Announced, Quorum, Rules, LAWFUL};
+use lists::{played, Announced, Quorum, Rules, LAWFUL};
 use mbrb::setting;
+use notes::Notes;
+use run::Run;
 use setpoints::Outcomes;
+use std::fmt::Debug;
 use std::time::Instant;
 use tally::Tally;
 use trace::{Call, Fields, Slot, Step, System, ANNOUNCED, DELIVERED, KEPT, SIGNED};
@@ -38,24 +45,25 @@ fn violations(system: &System, history: &History) -> Vec<Violation> {
 }
 
 /// A list with its history, after the check that the claim speaks of it.
-fn lawful_list(rules: Rules, seed: u64) -> (System, Vec<Step>, History) {
-    let (system, trace) = list(rules, seed);
-    if let Err(reason) = demand3::lawful(&system, &trace) {
+fn lawful_list(rules: Rules, seed: u64) -> (Run, History) {
+    let run = played(rules, seed);
+    if let Err(reason) = demand3::lawful(&run.system, &run.trace) {
         panic!("seed {seed}: {reason}");
     }
-    let history = History::of(&system, &trace);
-    (system, trace, history)
+    let history = History::of(&run.system, &run.trace);
+    (run, history)
 }
 
-/// The violation with the calls in its slot that changed something.
-fn shown(system: &System, trace: &[Step], violation: &Violation) -> Vec<String> {
+/// What is broken, with the calls in its slot that changed something.
+fn shown(run: &Run, broken: impl Debug, slot: Slot) -> Vec<String> {
+    let Run { system, trace, .. } = run;
     let concerned = |step: &Step| {
         let announced = step.announces(system.day).map(|(slot, _)| slot);
         let received = step.accepts().map(|fields| fields.slot);
-        step.code >= KEPT && announced.or(received) == Some(violation.slot)
+        step.code >= KEPT && announced.or(received) == Some(slot)
     };
     let calls = trace.iter().filter(|step| concerned(step));
-    let title = format!("{:?} is broken in {system}:", violation.conclusion);
+    let title = format!("{broken:?} is broken in {system}:");
     std::iter::once(title)
         .chain(calls.map(|step| format!("  {step}")))
         .collect()
@@ -65,18 +73,25 @@ fn shown(system: &System, trace: &[Step], violation: &Violation) -> Vec<String> 
 fn no_violation_in_100_000_lists() {
     let started = Instant::now();
     let lists = setting("MBRB_LISTS", 100_000);
-    let mut tally = Tally::default();
+    let (mut tally, mut notes) = (Tally::default(), Notes::default());
     for seed in (first_seed()..).take(lists as usize) {
-        let (system, trace, history) = lawful_list(LAWFUL, seed);
-        if let Some(violation) = violations(&system, &history).first() {
-            let calls = shown(&system, &trace, violation).join("\n");
+        let (run, history) = lawful_list(LAWFUL, seed);
+        if let Some(violation) = violations(&run.system, &history).first() {
+            let calls = shown(&run, violation.conclusion, violation.slot).join("\n");
             panic!("seed {seed}: {calls}");
         }
-        tally.add(&system, &trace, &history);
+        if let Some((wrong, node, slot)) = notes::wrong(&run).first() {
+            let calls = shown(&run, wrong, *slot).join("\n");
+            panic!("seed {seed}, the records of node {node}: {calls}");
+        }
+        tally.add(&run.system, &run.trace, &history);
+        notes.add(&run);
     }
     println!("{tally}");
+    println!("{notes}");
     println!("no violation, {:.1?}", started.elapsed());
     tally.assert_not_vacuous();
+    notes.assert_not_vacuous();
 }
 
 /// Small ones: each node announces, so that there are far more calls than elsewhere.
@@ -209,10 +224,10 @@ fn count_violations(rules: Rules, shortest_of: Conclusion) -> ([u64; 6], Vec<Str
     let mut counts = [0; 6];
     let mut shortest = Vec::new();
     for seed in (first_seed()..).take(10_000) {
-        let (system, trace, history) = lawful_list(rules, seed);
-        for violation in violations(&system, &history) {
+        let (run, history) = lawful_list(rules, seed);
+        for violation in violations(&run.system, &history) {
             counts[violation.conclusion as usize] += 1;
-            let calls = shown(&system, &trace, &violation);
+            let calls = shown(&run, violation.conclusion, violation.slot);
             let shorter = shortest.is_empty() || calls.len() < shortest.len();
             if violation.conclusion == shortest_of && shorter {
                 shortest = calls;
@@ -282,7 +297,7 @@ fn one_loss_more_than_d_is_seen() {
     };
     let [mut premise_held, mut broken, mut broken_for_more] = [0; 3];
     for seed in (first_seed()..).take(10_000) {
-        let (system, _, history) = lawful_list(rules, seed);
+        let (Run { system, .. }, history) = lawful_list(rules, seed);
         assert!(violations(&system, &history).is_empty());
         let receivers = system.nearly_all() - 1;
         assert!(demand3::reached(&history, receivers));

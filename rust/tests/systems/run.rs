@@ -1,17 +1,23 @@
-//! A system that runs: the correct nodes with their record buffers, and every call made through the exported functions and noted.
+//! A system that runs: the correct nodes with their record buffers, and every call made through the exported functions and put on the
+//! list.
 
 use crate::trace::{bit, word, Bundle, Call, Fields, Payload, Slot, Step, System};
 use mbrb::random::Random;
+use mbrb::reference::{RecordBytes, SEQS};
 use mbrb::{host, Config};
 use std::collections::HashMap;
 
 /// What each outgoing byte is before a call. No bundle that reading accepts: bytes 6 and 7 are not zero.
 const UNSENT: u8 = 0xee;
 
+/// How bundles are taken: by the exported function, or by one that is wrong.
+pub type Receive = fn(&Config, &[u8], &mut [u8], &mut [u8]) -> u32;
+
 pub struct Run {
     pub system: System,
     /// what the nodes are given, but for their own numbers: the system's table, or one with another quorum
     table: Config,
+    receive: Receive,
     records: Vec<Vec<u8>>,
     opened: u64,
     pub trace: Vec<Step>,
@@ -24,16 +30,18 @@ pub struct Run {
 
 impl Run {
     /// Nothing is called yet; the buffers have any content.
-    pub fn new(system: System, table: Config, random: &mut Random) -> Run {
+    pub fn new(system: System, table: Config, receive: Receive, random: &mut Random) -> Run {
         assert!(table.good(), "{table:?}");
+        let words = table.records_length() / 8;
         let mut buffer = |_| {
-            (0..64 * usize::from(system.n))
+            (0..words)
                 .flat_map(|_| random.word().to_ne_bytes())
                 .collect()
         };
         Run {
             system,
             table,
+            receive,
             records: (0..system.n).map(&mut buffer).collect(),
             opened: 0,
             trace: Vec::new(),
@@ -55,7 +63,7 @@ impl Run {
         let records = &mut self.records[usize::from(node)];
         let code = host::broadcast(&config, payload, records, &mut out);
         let payload = payload.to_vec();
-        self.note(node, Call::Broadcast { payload }, code, out);
+        self.list(node, Call::Broadcast { payload }, code, out);
     }
 
     pub fn receive(&mut self, node: u8, bundle: &[u8], out_length: usize) {
@@ -63,9 +71,9 @@ impl Run {
         let mut out = vec![UNSENT; out_length];
         let config = self.config(node);
         let records = &mut self.records[usize::from(node)];
-        let code = host::receive(&config, bundle, records, &mut out);
+        let code = (self.receive)(&config, bundle, records, &mut out);
         let bundle = bundle.to_vec();
-        self.note(node, Call::Receive { bundle }, code, out);
+        self.list(node, Call::Receive { bundle }, code, out);
     }
 
     /// The code of one setpoint from many at a node that bears so many faults; None before its day is opened. It is no call of the list.
@@ -84,11 +92,27 @@ impl Run {
             self.opened |= bit(node);
             let config = self.config(node);
             let code = host::open(&config, &mut self.records[usize::from(node)]);
-            self.note(node, Call::Open, code, Vec::new());
+            self.list(node, Call::Open, code, Vec::new());
         }
     }
 
-    fn note(&mut self, node: u8, call: Call, code: u32, out: Vec<u8>) {
+    /// The records of a node by their slots; none before its day is opened.
+    pub fn records(&self, node: u8) -> impl Iterator<Item = (Slot, &RecordBytes)> {
+        let opened = self.opened & bit(node) != 0;
+        let bytes = &self.records[usize::from(node)][..];
+        let (records, _) = if opened { bytes } else { &[] }.as_chunks();
+        let slot = |(place, record)| {
+            let slot = Slot {
+                day: self.system.day,
+                sender: (place / usize::from(SEQS)) as u8,
+                seq: (place % usize::from(SEQS)) as u8,
+            };
+            (slot, record)
+        };
+        records.iter().enumerate().map(slot)
+    }
+
+    fn list(&mut self, node: u8, call: Call, code: u32, out: Vec<u8>) {
         let step = Step {
             node,
             call,
@@ -136,13 +160,14 @@ impl Run {
         !read || signers & self.system.correct() & !self.signers(slot, payload) == 0
     }
 
-    /// How much of a bundle is news to a node: nothing after delivery or beside another payload, little if it adds no signer.
+    /// How much of a bundle is news to a node: nothing after delivery or beside another payload, though it may be noted there, and
+    /// little if it adds no signer.
     pub fn news(&self, node: u8, bundle: &Bundle) -> u32 {
         const DELIVERED: u8 = 2;
         let fields = Fields::of(bundle);
         let config = self.config(node);
         let place = config.place(fields.slot.sender, fields.slot.seq);
-        let record = &self.records[usize::from(node)][place..place + 32];
+        let record = &self.records[usize::from(node)][place..][..32];
         let empty = self.opened & bit(node) == 0 || record[0] == 0;
         let count = fields.signers.count_ones();
         if !empty && record[0] == DELIVERED {

@@ -1,7 +1,7 @@
 //! What happened in the lists, counted from the lists, so that a run that shows nothing does not pass.
 
 use crate::demand3::{self, History};
-use crate::trace::{Call, Payload, Slot, Step, System, ANNOUNCED, DELIVERED, KEPT, SIGNED};
+use crate::trace::{Call, Payload, Slot, Step, System, ANNOUNCED, DELIVERED, KEPT, NOTED, SIGNED};
 use std::collections::HashMap;
 use std::fmt;
 
@@ -13,6 +13,8 @@ pub struct Tally {
     kept: u64,
     signed: u64,
     delivered: u64,
+    /// another payload than the one held, by fewer than a quorum
+    noted: u64,
     /// deliveries of another payload than the one held
     replaced: u64,
     /// by the refusal's number; at 0, the openings
@@ -62,6 +64,7 @@ impl Tally {
             KEPT => self.kept += 1,
             SIGNED => self.signed += 1,
             DELIVERED => self.delivered += 1,
+            NOTED => self.noted += 1,
             ANNOUNCED.. => self.announced += 1,
             code => self.add_refusal(code as usize, step),
         }
@@ -86,13 +89,14 @@ impl Tally {
     }
 
     /// Each count, and how many there must be in a hundred lists.
-    fn counts(&self) -> [(&str, u64, u64); 16] {
+    fn counts(&self) -> [(&str, u64, u64); 17] {
         [
             ("calls", self.calls, 2000),
             ("announced", self.announced, 40),
             ("kept", self.kept, 100),
             ("signed", self.signed, 100),
             ("delivered", self.delivered, 100),
+            ("noted", self.noted, 50),
             ("delivered in place of another", self.replaced, 10),
             ("lists with an equivocating sender", self.equivocating, 20),
             ("lists with the delivery premise", self.premise_held, 20),
@@ -144,7 +148,7 @@ impl Strict {
         let reached = demand3::reached(history, system.nearly_all());
         self.premise_held += u64::from(reached && history.has_something_to_deliver());
         let held_back = |step: &&Step| {
-            matches!(step.code, KEPT | SIGNED | 24)
+            matches!(step.code, KEPT | SIGNED | NOTED | 24)
                 && step
                     .accepts()
                     .is_some_and(|fields| fields.signers.count_ones() >= least)

@@ -13,6 +13,7 @@ pub type Bundle = [u8; 32];
 pub const KEPT: u32 = 100;
 pub const SIGNED: u32 = 101;
 pub const DELIVERED: u32 = 102;
+pub const NOTED: u32 = 103;
 pub const ANNOUNCED: u32 = 200;
 
 /// The refusals that reading gives: a bundle with a higher code was read.
@@ -247,6 +248,7 @@ fn answer(code: u32) -> String {
         KEPT => "kept".to_string(),
         SIGNED => "signed".to_string(),
         DELIVERED => "delivered".to_string(),
+        NOTED => "noted".to_string(),
         ANNOUNCED.. => format!("announced {}", code - ANNOUNCED),
         _ => format!("refused {code}"),
     }

@@ -14,7 +14,7 @@ use Rattle.config.specs.Config.{good, quorum, slotOfDay, inRange, slotPlace, pl
 use Rattle.config.proofs.Laws.{good-says, place-slot}
 use Rattle.bundle.specs.Bundle.{bundleOf, headerOf}
 use Rattle.bundle.proofs.Fields.{payload-loaded}
-use Rattle.protocol.specs.Update.{Held, announcedBy}
+use Rattle.protocol.specs.Update.{Nothing, Held, announcedBy}
 use Rattle.protocol.proofs.WellFormed.{WellFormed, announced-well-formed}
 use Rattle.record.specs.Record.{bytes, encoding, signersField, payloadField}
 use Rattle.record.proofs.Encoding.{encoding-fields}
@@ -104,7 +104,7 @@ module _ (c : tie.After-held) where
   unfolding announcedBy
   kept-known =
       c .held .ensures
-      ∙ ap₂ (λ (s : ℕ) (p : List ℕ). encoding (Held s p)) (c .before .before .insert .ensures)
+      ∙ ap₂ (λ (s : ℕ) (p : List ℕ). encoding (Held s p Nothing)) (c .before .before .insert .ensures)
       (c .before .load .ensures ∙ payload-loaded (payload (at found)) (lengths (at found) .before .if2 .left))
 
   well-formed : WellFormed (config (at found) .n) (config (at found) .own) (quorum (config (at found))) (config (at found) .own) (announcedBy (config (at found) .own) (payload (at found)))
@@ -117,7 +117,7 @@ module _ (c : tie.After-held) where
   sent-known : sent (slot found) (bytes (c .held .result)) ≡ bundleOf (announcedHeader (config (at found)) (seq found)) (payload (at found))
   unfolding sent announcedBy
   sent-known =
-      let (signed, same) =
+      let (signed, same, aside) =
       encoding-fields (config (at found) .n) (config (at found) .own) (quorum (config (at found))) (config (at found) .own)
       (good-says (config (at found)) (good-there (at found)) .most) (announcedBy (config (at found) .own) (payload (at found))) refl well-formed in
       ap₂ bundleOf (ap (headerOf (slot found)) (ap signersField kept-known ∙ signed)) (ap payloadField kept-known ∙ same)

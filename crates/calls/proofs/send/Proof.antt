@@ -16,8 +16,12 @@ start c = c .before .before .before .before
 -- each word fits, as its type says
 words-fit : (c : tie.Start) → Fits (c .args .«record»)
 words-fit c =
-    record
-    { head-fits = omega arith; signers-fits = omega arith; payload-fits = record { high-fits = omega arith; low-fits = omega arith } }
+    record {
+      head-fits = omega arith;
+      signers-fits = omega arith;
+      payload-fits = record { high-fits = omega arith; low-fits = omega arith };
+      note-fits = record { signers-fits = omega arith; zero-fits = omega arith; payload-fits = record { high-fits = omega arith; low-fits = omega arith } };
+    }
 
 -- ---- the needs
 
@@ -33,7 +37,7 @@ returns c =
     let encoding = c .before .before in
     let given = start encoding in
     encoding .encode .ensures
-    ∙ rw (eq-eqb _ _ (given .pre), signers-words (given .args .«record») (words-fit given), payload-words (given .args .«record») (words-fit given))
+    ∙ rw (eq-eqb _ _ (given .pre), signers-words (given .args .«record») (words-fit given), payload-words (given .args .«record»))
 
 pub send-spec : {M : Type 1} → statement M
 send-spec = tie.close (tie.spec encode-requires same-length returns)

@@ -24,6 +24,12 @@ enum-known-received-3 c = search needs
 put-requires-3 : tie.Need-put-requires-3
 put-requires-3 c κs = search needs
 
+enum-known-received-4 : tie.Need-enum-known-received-4
+enum-known-received-4 c = search needs
+
+put-requires-4 : tie.Need-put-requires-4
+put-requires-4 c κs = search needs
+
 enum-told : tie.Need-enum-told
 enum-told c = search needs
 
@@ -48,9 +54,16 @@ returns-3 : tie.Need-returns-3
 unfolding settledRecords
 returns-3 c = rw (c .before .before .before .before .before .received3 .given .1) (c .before .before .put3 .ensures)
 
+same-length-4 : tie.Need-same-length-4
+same-length-4 c = search needs
+
 returns-4 : tie.Need-returns-4
 unfolding settledRecords
-returns-4 c = rw (c .enum-told .given .1) refl
+returns-4 c = rw (c .before .before .before .before .before .received4 .given .1) (c .before .before .put4 .ensures)
+
+returns-5 : tie.Need-returns-5
+unfolding settledRecords
+returns-5 c = rw (c .enum-told .given .1) refl
 
 pub store-spec : {M : Type 1} → statement M
 store-spec =
@@ -62,6 +75,8 @@ store-spec =
     put-requires-2
     enum-known-received-3
     put-requires-3
+    enum-known-received-4
+    put-requires-4
     enum-told
     same-length
     returns
@@ -69,4 +84,6 @@ store-spec =
     returns-2
     same-length-3
     returns-3
-    returns-4)
+    same-length-4
+    returns-4
+    returns-5)

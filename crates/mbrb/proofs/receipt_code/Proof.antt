@@ -16,6 +16,9 @@ enum-told-2 c = search needs
 enum-told-3 : tie.Need-enum-told-3
 enum-told-3 c = search needs
 
+enum-told-4 : tie.Need-enum-told-4
+enum-told-4 c = search needs
+
 enum-known-receipt : tie.Need-enum-known-receipt
 enum-known-receipt c = search needs
 
@@ -32,7 +35,10 @@ returns-3 : tie.Need-returns-3
 returns-3 c = search needs
 
 returns-4 : tie.Need-returns-4
-returns-4 c = c .number .ensures ∙ sym (ap (λ a. reportedCode (receiptOf a)) (c .before .before .receipt .given .1))
+returns-4 c = search needs
+
+returns-5 : tie.Need-returns-5
+returns-5 c = c .number .ensures ∙ sym (ap (λ a. reportedCode (receiptOf a)) (c .before .before .receipt .given .1))
 
 pub receipt-code-spec : {M : Type 1} → statement M
 receipt-code-spec =
@@ -41,9 +47,11 @@ receipt-code-spec =
     enum-told
     enum-told-2
     enum-told-3
+    enum-told-4
     enum-known-receipt
     number-requires
     returns
     returns-2
     returns-3
-    returns-4)
+    returns-4
+    returns-5)

@@ -20,7 +20,7 @@ use Rattle.protocol.specs.Update.{isDelivered}
 use Rattle.payload.specs.Payload as payload
 use Rattle.record.specs.declared.Record.{Record}
 use Rattle.record.specs.Record.{bytes, decoded, wellFormed, payloadField}
-use Rattle.record.proofs.Words.{Fits, payload-words}
+use Rattle.record.proofs.Words.{payload-words}
 use Rattle.calls.specs.Records.{recordAt}
 use Rattle.calls.proofs.Records.{place-fits}
 use Rattle.calls.proofs.RecordBounds.{loaded-part, record-at}
@@ -111,13 +111,6 @@ module _ (c : tie.After-is-delivered Inv-loop μ-loop) where
   abbrev held : Record
   held = formed-at .before .load .result
 
-  -- each word fits, as its type says
-  words-fit : Fits held
-  words-fit =
-      let ok = formed-at .before .load .ok in
-      record
-      { head-fits = omega arith; signers-fits = omega arith; payload-fits = record { high-fits = omega arith; low-fits = omega arith } }
-
   formed : slotWellFormed (config here) (records here) (sender here) (seq here) ≡ true
   formed = sym (formed-known formed-at) ∙ not-false _ (c .before .if1 .left)
 
@@ -126,7 +119,7 @@ module _ (c : tie.After-is-delivered Inv-loop μ-loop) where
   said delivered is =
       slot-setpoint (config here) (records here) (start here .pre .0) (start here .pre .1 .0) (sender here) (start here .pre .1 .1) (seq here) (seq-known here) formed
       ∙ (ap (λ (xs : List ℕ). cond (isDelivered (decoded xs)) (setpointIn (payloadField xs)) []) (sym (record-known formed-at))
-      ∙ ap₂ (λ (m : Bool) (ys : List ℕ). cond m (setpointIn ys) []) (sym (c .is-delivered .ensures) ∙ is) (payload-words held words-fit))
+      ∙ ap₂ (λ (m : Bool) (ys : List ℕ). cond m (setpointIn ys) []) (sym (c .is-delivered .ensures) ∙ is) (payload-words held))
 
 -- ---- the needs
 

@@ -1,52 +1,17 @@
--- `load` meets its contract: 32 bytes are two words and a payload. Assumes nothing.
+-- `load` meets its contract: the 64 bytes are two halves. Assumes nothing.
 use Rattle.record.proofs.Words.{loaded-whole, loaded-other}
 use borrow.Author.Needs.{needs}
 use Rattle.record.proofs.load.Statement.{statement}
 use Rattle.record.proofs.load.Tie as tie
-use Rattle.octets.proofs.word.Reads as word-reads
-use Rattle.payload.proofs.load.Reads as load-reads
+use Rattle.block.proofs.load.Reads as load-reads
+use Rattle.note.proofs.load.Reads as load-reads′
+use Rattle.note.proofs.nothing.Reads as nothing-reads
 
--- where the signers, the first word and the length are known
-abbrev signers-read : tie.After-load → tie.After-word2
-signers-read c = c .before .before
-
-abbrev head-read : tie.After-load → tie.After-word
-head-read c = signers-read c .before .before
-
-abbrev sized : tie.After-load → tie.Else1
-sized c = head-read c .before .before
-
--- ---- the needs
+nothing-requires : tie.Need-nothing-requires
+nothing-requires c κs = search needs
 
 returns : tie.Need-returns
-returns c = loaded-other _ (c .if1 .taken)
-
-sub-word : tie.Need-sub-word
-sub-word c = search needs
-
-part-word-start : tie.Need-part-word-start
-part-word-start c = search needs
-
-part-word-end : tie.Need-part-word-end
-part-word-end c = search needs
-
-word-requires : tie.Need-word-requires
-word-requires c κs = search needs
-
-sub-word-2 : tie.Need-sub-word-2
-sub-word-2 c = search needs
-
-part-word-start-2 : tie.Need-part-word-start-2
-part-word-start-2 c = search needs
-
-part-word-end-2 : tie.Need-part-word-end-2
-part-word-end-2 c = search needs
-
-word-requires-2 : tie.Need-word-requires-2
-word-requires-2 c κs = search needs
-
-add-load : tie.Need-add-load
-add-load c = search needs
+returns c = loaded-other _ _ (c .before .if1 .taken) (c .nothing .ensures)
 
 sub-load : tie.Need-sub-load
 sub-load c = search needs
@@ -60,26 +25,33 @@ part-load-end c = search needs
 load-requires : tie.Need-load-requires
 load-requires c κs = search needs
 
+sub-load-2 : tie.Need-sub-load-2
+sub-load-2 c = search needs
+
+part-load-start-2 : tie.Need-part-load-start-2
+part-load-start-2 c = search needs
+
+part-load-end-2 : tie.Need-part-load-end-2
+part-load-end-2 c = search needs
+
+load-requires-2 : tie.Need-load-requires-2
+load-requires-2 c κs = search needs
+
 returns-2 : tie.Need-returns-2
-returns-2 c =
-    loaded-whole _ _ (sized c .if1 .left) (λ i. sized c .before .shared-slice-known .given i .fits) (head-read c .word .ensures) (signers-read c .word2 .ensures) (c .load .ensures)
+returns-2 c = loaded-whole _ _ (c .before .before .before .before .before .if1 .left) (c .before .before .before .load .ensures) (c .load2 .ensures)
 
 pub load-spec : {M : Type 1} → statement M
 load-spec =
     tie.close
     (tie.spec
+    nothing-requires
     returns
-    sub-word
-    part-word-start
-    part-word-end
-    word-requires
-    sub-word-2
-    part-word-start-2
-    part-word-end-2
-    word-requires-2
-    add-load
     sub-load
     part-load-start
     part-load-end
     load-requires
+    sub-load-2
+    part-load-start-2
+    part-load-end-2
+    load-requires-2
     returns-2)

@@ -1,11 +1,13 @@
 -- `sign` meets its contract: the cases of receiving on an empty record. Assumes nothing.
-use mathlib.Core.Path.{_≡_, sym, _∙_}
+use mathlib.Core.Path.{_≡_, refl, sym, _∙_}
 use mathlib.Core.Bool.{false}
 use Rattle.signers.specs.Signers.{member}
+use Rattle.record.specs.Record.{encoding}
 use Rattle.record.proofs.UpdateCases.{update-unknown, update-at-once, update-signed, encoded-refused, encoded-delivered, encoded-held}
 use borrow.Author.Needs.{needs}
 use Rattle.record.proofs.sign.Statement.{statement}
 use Rattle.record.proofs.sign.Tie as tie
+use Rattle.note.proofs.nothing.Reads as nothing-reads
 use Rattle.config.proofs.Config.quorum.Reads as quorum-reads
 use Rattle.record.proofs.Record.delivered.Reads as delivered-reads
 use Rattle.record.proofs.Record.held.Reads as held-reads
@@ -37,23 +39,28 @@ quorum-requires c κs = search needs
 size-requires : tie.Need-size-requires
 size-requires c κs = search needs
 
+nothing-requires : tie.Need-nothing-requires
+nothing-requires c κs = search needs
+
 delivered-requires : tie.Need-delivered-requires
 delivered-requires c κs = search needs
 
 returns-2 : tie.Need-returns-2
 returns-2 c =
-    let known = counted (c .before .before) in
-    encoded-delivered _ _ _ _ _ (known .insert .ensures)
-    (update-at-once _ _ _ _ (unsigned known) (rw (c .before .before .before .quorum .ensures, c .before .before .size .ensures, known .insert .ensures) at (c .before .if2 .taken)))
+    let sized = c .before .before .before in
+    let known = counted sized in
+    encoded-delivered _ _ _ _ _ _ _ (known .insert .ensures) (c .before .nothing .ensures)
+    (update-at-once _ _ _ _ (unsigned known) (rw (sized .before .quorum .ensures, sized .size .ensures, known .insert .ensures) at (c .before .before .if2 .taken)))
     (c .delivered .ensures)
 
 held-requires : tie.Need-held-requires
 held-requires c κs = search needs
 
 returns-3 : tie.Need-returns-3
+unfolding encoding
 returns-3 c =
     let known = counted (c .before .before) in
-    encoded-held _ _ _ _ _ (known .insert .ensures) _
+    encoded-held _ _ _ _ _ _ _ (known .insert .ensures) refl _
     (update-signed _ _ _ _ (unsigned known) (rw (c .before .before .before .quorum .ensures, c .before .before .size .ensures, known .insert .ensures) at (c .before .if2 .left)))
     (c .held .ensures)
 
@@ -66,6 +73,7 @@ sign-spec =
     insert-requires
     quorum-requires
     size-requires
+    nothing-requires
     delivered-requires
     returns-2
     held-requires

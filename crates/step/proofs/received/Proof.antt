@@ -2,7 +2,7 @@
 use native.Mathlib.Omega.{arith}
 use borrow.Author.Needs.{needs}
 use Rattle.refusal.specs.Outcome.{done}
-use Rattle.protocol.specs.Update.{kept, signed, delivered}
+use Rattle.protocol.specs.Update.{kept, signed, delivered, noted}
 use Rattle.text.specs.Text.{ascii}
 use Rattle.text.proofs.WrittenTexts.{puts, puts-all, room-left, _then_}
 use Rattle.step.proofs.Answers.{answer-wrote}
@@ -51,6 +51,19 @@ counted-requires-3 c κs = room-left 21 (puts (c .before .before .before .put3 .
 enum-known-receipt-4 : tie.Need-enum-known-receipt-4
 enum-known-receipt-4 c = search needs
 
+slice-aggregate-put-4 : tie.Need-slice-aggregate-put-4
+slice-aggregate-put-4 c = search needs
+
+put-requires-4 : tie.Need-put-requires-4
+put-requires-4 c κs = search needs
+
+counted-requires-4 : tie.Need-counted-requires-4
+unfolding ascii
+counted-requires-4 c κs = room-left 21 (puts (c .before .before .before .put4 .ensures)) (omega arith)
+
+enum-known-receipt-5 : tie.Need-enum-known-receipt-5
+enum-known-receipt-5 c = search needs
+
 refused-requires : tie.Need-refused-requires
 refused-requires c κs = search needs
 
@@ -91,7 +104,18 @@ same-length-4 : tie.Need-same-length-4
 same-length-4 c = search needs
 
 returns-4 : tie.Need-returns-4
-returns-4 c = rw (c .before .before .before .before .before .receipt4 .given .1) (c .before .before .refused .ensures)
+unfolding ascii
+returns-4 c =
+    let count = c .before .before in
+    let word = count .before .before .before .before in
+    let told = word .before .before .before .before .receipt4 .given in
+    rw (told .1) (answer-wrote (done (noted, told .0 .0)) (puts (word .put4 .ensures) then puts-all (count .counted4 .ensures)) (omega arith))
+
+same-length-5 : tie.Need-same-length-5
+same-length-5 c = search needs
+
+returns-5 : tie.Need-returns-5
+returns-5 c = rw (c .before .before .before .before .before .receipt5 .given .1) (c .before .before .refused .ensures)
 
 pub received-spec : {M : Type 1} → statement M
 received-spec =
@@ -110,6 +134,10 @@ received-spec =
     put-requires-3
     counted-requires-3
     enum-known-receipt-4
+    slice-aggregate-put-4
+    put-requires-4
+    counted-requires-4
+    enum-known-receipt-5
     refused-requires
     same-length
     returns
@@ -118,4 +146,6 @@ received-spec =
     same-length-3
     returns-3
     same-length-4
-    returns-4)
+    returns-4
+    same-length-5
+    returns-5)

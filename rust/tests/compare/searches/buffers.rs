@@ -3,6 +3,7 @@
 use crate::comparison::{place, Case, Kind, Records};
 use crate::records::{bytes, good_config, Clause, Slot, CLAUSES, DELIVERED, HELD};
 use mbrb::random::Random;
+use mbrb::reference::{RecordBytes, RECORD_LENGTH, SENDER_LENGTH};
 use std::array;
 
 /// What one of our records holds.
@@ -22,7 +23,7 @@ impl Content {
     }
 
     /// By a clause that the config leaves room for, of those that can occur in the slot.
-    fn malformed(random: &mut Random, slot: &Slot) -> (Content, [u8; 32]) {
+    fn malformed(random: &mut Random, slot: &Slot) -> (Content, RecordBytes) {
         loop {
             let clause = CLAUSES[random.below(CLAUSES.len())];
             if let Some(record) = slot.malformed(random, clause) {
@@ -31,7 +32,7 @@ impl Content {
         }
     }
 
-    fn any(random: &mut Random, slot: &Slot) -> (Content, [u8; 32]) {
+    fn any(random: &mut Random, slot: &Slot) -> (Content, RecordBytes) {
         let content = match random.below(4) {
             0 => Content::Empty,
             1 => Content::in_use(random),
@@ -42,12 +43,12 @@ impl Content {
     }
 
     /// Of any content but a malformed one by a clause.
-    fn with_record(self, random: &mut Random, slot: &Slot) -> (Content, [u8; 32]) {
+    fn with_record(self, random: &mut Random, slot: &Slot) -> (Content, RecordBytes) {
         let record = match self {
             Content::Held => slot.well_formed(random, HELD),
             Content::Delivered => slot.well_formed(random, DELIVERED),
             Content::AnyBytes => bytes(random),
-            _ => [0; 32],
+            _ => [0; RECORD_LENGTH],
         };
         (self, record)
     }
@@ -90,7 +91,7 @@ impl End {
     }
 
     /// What our record of a number holds: before the end something in use, behind it anything.
-    fn content(self, random: &mut Random, seq: usize, slot: &Slot) -> (Content, [u8; 32]) {
+    fn content(self, random: &mut Random, seq: usize, slot: &Slot) -> (Content, RecordBytes) {
         match self {
             _ if seq < self.seq() => Content::in_use(random).with_record(random, slot),
             _ if seq > self.seq() => Content::any(random, slot),
@@ -132,7 +133,7 @@ pub fn buffer(seed: u64, number: u64) -> Buffer {
         kind: Kind::Broadcast,
         config,
         input: payload.to_vec(),
-        records_length: 512 * usize::from(config.n),
+        records_length: config.records_length(),
         out: bytes(random),
         out_length: 32,
     };
@@ -147,9 +148,9 @@ pub fn buffer(seed: u64, number: u64) -> Buffer {
 /// Of each sender, and in the room behind them, empty records or any bytes.
 fn any_records(random: &mut Random, n: u8) -> Records {
     let mut records = Records::zeroed(n);
-    for first in (0..records.room()).step_by(512) {
+    for first in (0..records.room()).step_by(SENDER_LENGTH) {
         if random.once_in(2) {
-            for place in (first..first + 512).step_by(32) {
+            for place in (first..first + SENDER_LENGTH).step_by(RECORD_LENGTH) {
                 records.put(place, &bytes(random));
             }
         }

@@ -48,7 +48,7 @@ fn host_and_reference_agree_wherever_the_search_ends() {
         }
     }
     println!("{tally}");
-    tally.assert_complete((count / 1_000).clamp(1, 100));
+    tally.assert_complete((count / 2_000).clamp(1, 100));
 }
 
 /// Code, outgoing bytes and records after the call.

@@ -1,6 +1,7 @@
 //! Announcing by rules that are right but for one thing in the search for our next number: the comparison has to find each.
 
-use crate::records::{bit, encode, well_formed, DELIVERED, EMPTY, HELD};
+use crate::records::{bit, encode, noted_signers_of, well_formed, DELIVERED, EMPTY, HELD};
+use mbrb::reference::RecordBytes;
 use mbrb::Config;
 use std::ops::Range;
 
@@ -17,7 +18,7 @@ pub struct Rules {
     sender: fn(&Config) -> u8,
     /// which of them, in this order
     seqs: Range<usize>,
-    found: fn(&Config, &[u8; 32]) -> Found,
+    found: fn(&Config, &RecordBytes) -> Found,
     /// which of the records looked at is used, or the refusal
     search: fn(&[Found]) -> Result<usize, u32>,
     /// the number as it is told in the code and in the bundle
@@ -32,7 +33,7 @@ pub const RIGHT: Rules = Rules {
     told: |seq| [seq, seq],
 };
 
-fn found(config: &Config, record: &[u8; 32]) -> Found {
+fn found(config: &Config, record: &RecordBytes) -> Found {
     if !well_formed(config, config.own, record) {
         Found::Malformed
     } else if record[0] == EMPTY {
@@ -57,7 +58,7 @@ fn decided_by(found: &[Found], index: Option<usize>) -> Result<usize, u32> {
 }
 
 /// As `found`, but that a record in use of this state is taken for an empty one.
-fn found_empty_if(state: u8, config: &Config, record: &[u8; 32]) -> Found {
+fn found_empty_if(state: u8, config: &Config, record: &RecordBytes) -> Found {
     match found(config, record) {
         Found::InUse if record[0] == state => Found::Empty,
         found => found,
@@ -90,8 +91,8 @@ impl Rules {
         let [in_code, in_bundle] = (self.told)(seq);
         out[..4].copy_from_slice(&config.day.to_be_bytes());
         out[4..8].copy_from_slice(&[config.own, in_bundle as u8, 0, 0]);
-        // From the signers on, bundle and record are the same.
-        out[8..].copy_from_slice(&record[8..]);
+        // From the signers up to the note, bundle and record are the same.
+        out[8..].copy_from_slice(&record[8..32]);
         200 + in_code as u32
     }
 }
@@ -199,6 +200,39 @@ pub const WRONG: &[(&str, Rules)] = &[
             found: |config, record| match record[0] {
                 EMPTY => Found::Empty,
                 _ => found(config, record),
+            },
+            ..RIGHT
+        },
+    ),
+    (
+        "an empty record known by all but its note",
+        Rules {
+            found: |config, record| match record[..32] == [0; 32] {
+                true => Found::Empty,
+                false => found(config, record),
+            },
+            ..RIGHT
+        },
+    ),
+    (
+        "the note of a record in use not looked at",
+        Rules {
+            found: |config, record| {
+                let mut without = *record;
+                if record[0] != EMPTY {
+                    without[32..].fill(0);
+                }
+                found(config, &without)
+            },
+            ..RIGHT
+        },
+    ),
+    (
+        "a note in our own slot malformed",
+        Rules {
+            found: |config, record| match noted_signers_of(record) {
+                0 => found(config, record),
+                _ => Found::Malformed,
             },
             ..RIGHT
         },

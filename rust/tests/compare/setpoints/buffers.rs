@@ -2,14 +2,19 @@
 
 use super::defects::{damage, Defect};
 use crate::records::{bytes, choose, good_config_of, up_to, Slot, DELIVERED, HELD};
+use mbrb::reference::{RecordBytes, RECORD_LENGTH, SENDER_LENGTH};
 use mbrb::{random::Random, Config};
 
 /// What a record holds that is not empty.
 #[derive(Clone, Copy, Debug, PartialEq, Eq, PartialOrd, Ord)]
 pub enum Content {
-    /// delivered
+    /// delivered; another setpoint may be noted
     Setpoint,
     HeldSetpoint,
+    /// noted beside another payload that is delivered
+    NotedSetpoint,
+    /// noted beside another payload that is held
+    HeldNotedSetpoint,
     HeldOther,
     /// delivered, and far from a setpoint
     Other,
@@ -30,20 +35,22 @@ pub fn setpoint(value: i16) -> [u8; 16] {
 impl Content {
     /// What does not count though it is there.
     fn passed_over(random: &mut Random) -> Content {
-        match random.below(4) {
+        match random.below(6) {
             0 => Content::HeldSetpoint,
             1 => Content::HeldOther,
             2 => Content::Other,
+            3 => Content::NotedSetpoint,
+            4 => Content::HeldNotedSetpoint,
             _ => Content::Stray(MARKS[random.below(MARKS.len())]),
         }
     }
 
-    fn record(self, random: &mut Random, config: &Config, sender: u8, value: i16) -> [u8; 32] {
+    fn record(self, random: &mut Random, config: &Config, sender: u8, value: i16) -> RecordBytes {
         let (state, payload) = match self {
             Content::Setpoint => (DELIVERED, setpoint(value)),
             Content::HeldSetpoint => (HELD, setpoint(value)),
-            Content::HeldOther => (HELD, other_payload(random)),
-            Content::Other => (DELIVERED, other_payload(random)),
+            Content::HeldOther | Content::HeldNotedSetpoint => (HELD, other_payload(random)),
+            Content::Other | Content::NotedSetpoint => (DELIVERED, other_payload(random)),
             Content::Stray(at) => {
                 let mut payload = setpoint(value);
                 payload[at] ^= 1 << random.below(8);
@@ -56,7 +63,16 @@ impl Content {
             sender,
             payload,
         };
-        slot.well_formed(random, state)
+        let mut record = slot.well_formed(random, state);
+        let noted = match self {
+            Content::NotedSetpoint | Content::HeldNotedSetpoint => Some(value),
+            Content::Setpoint if random.once_in(3) => Some(EDGES[random.below(EDGES.len())]),
+            _ => None,
+        };
+        if let Some(noted) = noted.map(setpoint).filter(|noted| noted != payload) {
+            slot.note_payload(random, &mut record, &noted);
+        }
+        record
     }
 }
 
@@ -185,10 +201,10 @@ fn pooled_count(random: &mut Random, config: &Config) -> u32 {
 impl Buffer {
     /// A day just opened.
     pub fn empty(random: &mut Random, config: Config) -> Buffer {
-        let length = 512 * usize::from(config.n);
+        let length = config.records_length();
         Buffer {
             config,
-            bytes: vec![0; length + 512],
+            bytes: vec![0; length + SENDER_LENGTH],
             lent: length,
             senders: vec![Sender::default(); config.n.into()],
             defects: Vec::new(),
@@ -238,9 +254,9 @@ impl Buffer {
         sender.changed |= content == Content::Setpoint && counted != Some(value);
     }
 
-    pub fn put_bytes(&mut self, sender: u8, seq: usize, record: &[u8; 32]) {
-        let place = 32 * (16 * usize::from(sender) + seq);
-        self.bytes[place..place + 32].copy_from_slice(record);
+    pub fn put_bytes(&mut self, sender: u8, seq: usize, record: &RecordBytes) {
+        let place = SENDER_LENGTH * usize::from(sender) + RECORD_LENGTH * seq;
+        self.bytes[place..place + RECORD_LENGTH].copy_from_slice(record);
     }
 
     pub fn any_value(&self, random: &mut Random) -> i16 {

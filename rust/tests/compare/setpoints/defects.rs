@@ -4,6 +4,7 @@ use super::buffers::{setpoint, Buffer, Sender};
 use crate::damage::bad_config;
 use crate::quorums::Choice;
 use crate::records::{Clause, Slot, CLAUSES};
+use mbrb::reference::{RECORD_LENGTH, SENDER_LENGTH};
 use mbrb::{random::Random, Config};
 
 #[derive(Clone, Copy, Debug, PartialEq, Eq, PartialOrd, Ord)]
@@ -57,6 +58,8 @@ impl Cause {
 #[derive(Clone, Copy, Debug, PartialEq, Eq, PartialOrd, Ord)]
 pub enum Length {
     Nothing,
+    /// as many as records without notes would have
+    Half,
     SenderLess,
     RecordLess,
     ByteLess,
@@ -65,8 +68,9 @@ pub enum Length {
     SenderMore,
 }
 
-pub const LENGTHS: [Length; 7] = [
+pub const LENGTHS: [Length; 8] = [
     Length::Nothing,
+    Length::Half,
     Length::SenderLess,
     Length::RecordLess,
     Length::ByteLess,
@@ -79,12 +83,13 @@ impl Length {
     fn in_place_of(self, right: usize) -> usize {
         match self {
             Length::Nothing => 0,
-            Length::SenderLess => right - 512,
-            Length::RecordLess => right - 32,
+            Length::Half => right / 2,
+            Length::SenderLess => right - SENDER_LENGTH,
+            Length::RecordLess => right - RECORD_LENGTH,
             Length::ByteLess => right - 1,
             Length::ByteMore => right + 1,
-            Length::RecordMore => right + 32,
-            Length::SenderMore => right + 512,
+            Length::RecordMore => right + RECORD_LENGTH,
+            Length::SenderMore => right + SENDER_LENGTH,
         }
     }
 }
@@ -160,7 +165,7 @@ fn spoil_table(random: &mut Random, buffer: &mut Buffer) {
     buffer.config = bad_config(random, buffer.config);
     // With the length that is right for it, the table alone is to blame.
     if buffer.defects.is_empty() && random.once_in(2) {
-        buffer.lent = 512 * usize::from(buffer.config.n);
+        buffer.lent = buffer.config.records_length();
         let room = buffer.bytes.len().max(buffer.lent);
         buffer.bytes.resize(room, 0);
     }
@@ -170,13 +175,17 @@ fn spoil_table(random: &mut Random, buffer: &mut Buffer) {
 
 fn spoil_length(random: &mut Random, buffer: &mut Buffer) {
     let length = LENGTHS[random.below(LENGTHS.len())];
-    buffer.lent = length.in_place_of(512 * buffer.senders.len());
+    buffer.lent = length.in_place_of(SENDER_LENGTH * buffer.senders.len());
     buffer.defects.push(Defect::Length(length));
 }
 
 fn spoil_record(random: &mut Random, buffer: &mut Buffer) {
     let place = PLACES[random.below(PLACES.len())];
-    let clause = CLAUSES[random.below(CLAUSES.len())];
+    // By this clause alone a stricter quorum than the least shows.
+    let clause = match random.once_in(12) {
+        true => Clause::DeliveredBelowQuorum,
+        false => CLAUSES[random.below(CLAUSES.len())],
+    };
     let slot = place.slot(random, &buffer.senders);
     // What makes a record malformed is known only while the table is good.
     let Some((sender, seq)) = slot.filter(|_| buffer.config.good()) else {

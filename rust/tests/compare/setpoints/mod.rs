@@ -10,10 +10,11 @@ mod promise;
 mod tally;
 mod wrong;
 
-use crate::arena::CONFIG;
+use crate::arena::{CONFIG, LENGTH};
 use crate::records::bytes;
 use buffers::{buffer, setpoint, Buffer};
 use mbrb::random::Random;
+use mbrb::reference::{RecordBytes, RECORD_LENGTH, SENDER_LENGTH};
 use mbrb::{host, reference, setting, Config};
 use std::fmt;
 use tally::Tally;
@@ -111,8 +112,8 @@ fn a_written_record_is_found() {
 
 /// Records of four nodes among the program's constants, where a write ends the program. All but our own node have delivered a setpoint,
 /// under different numbers: 7, 2100 and -5 hundredths of a degree.
-static CONSTANT: [[u8; 32]; 64] = {
-    let mut records = [[0; 32]; 64];
+static CONSTANT: [RecordBytes; 64] = {
+    let mut records = [[0; RECORD_LENGTH]; 64];
     records[0] = delivered([0x00, 0x07]);
     records[32 + 5] = delivered([0x08, 0x34]);
     records[48 + 15] = delivered([0xff, 0xfb]);
@@ -120,8 +121,8 @@ static CONSTANT: [[u8; 32]; 64] = {
 };
 
 /// The record of a setpoint that all four nodes have signed.
-const fn delivered([high, low]: [u8; 2]) -> [u8; 32] {
-    let mut record = [0; 32];
+const fn delivered([high, low]: [u8; 2]) -> RecordBytes {
+    let mut record = [0; RECORD_LENGTH];
     (record[0], record[15]) = (2, 0b1111);
     (record[16], record[17], record[18]) = (1, high, low);
     record
@@ -136,10 +137,10 @@ fn a_setpoint_needs_no_records_that_can_be_written() {
 #[test]
 fn records_may_start_anywhere_and_nothing_around_them_changes() {
     for shift in 0..32 {
-        let mut memory: [u8; 2048 + 96] = bytes(&mut Random::new(1));
-        memory[32 + shift..][..2048].copy_from_slice(CONSTANT.as_flattened());
+        let mut memory: [u8; LENGTH + 96] = bytes(&mut Random::new(1));
+        memory[32 + shift..][..LENGTH].copy_from_slice(CONSTANT.as_flattened());
         let before = memory;
-        let records = &mut memory[32 + shift..][..2048];
+        let records = &mut memory[32 + shift..][..LENGTH];
         assert_eq!(
             [HOST, REFERENCE].map(|call| call(&CONFIG, records)),
             [(1 << 16) + 7; 2]
@@ -152,7 +153,7 @@ fn records_may_start_anywhere_and_nothing_around_them_changes() {
 fn a_length_of_records_counts_in_full() {
     for more in [0x100, 0x1_0000, 0x100_0000] {
         let mut records = CONSTANT.as_flattened().to_vec();
-        records.resize(2048 + more, 0);
+        records.resize(LENGTH + more, 0);
         assert_eq!(
             [HOST, REFERENCE].map(|call| call(&CONFIG, &mut records)),
             [20; 2]
@@ -171,7 +172,7 @@ fn every_value_comes_out_as_its_two_bytes() {
         q: 1,
     };
     for value in i16::MIN..=i16::MAX {
-        let mut records = [0; 512];
+        let mut records = [0; SENDER_LENGTH];
         (records[0], records[15]) = (2, 1);
         records[16..32].copy_from_slice(&setpoint(value));
         let code = host::setpoint(&alone, &records);

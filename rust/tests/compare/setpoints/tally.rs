@@ -95,7 +95,13 @@ fn kinds() -> impl Iterator<Item = Seen> {
         .filter(|choice| choice.is_allowed())
         .map(Seen::Quorum);
     let contents = || {
-        let others = [Content::HeldSetpoint, Content::HeldOther, Content::Other];
+        let others = [
+            Content::HeldSetpoint,
+            Content::HeldOther,
+            Content::Other,
+            Content::NotedSetpoint,
+            Content::HeldNotedSetpoint,
+        ];
         others.into_iter().chain(MARKS.map(Content::Stray))
     };
     refusals()

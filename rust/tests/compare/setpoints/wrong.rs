@@ -1,8 +1,8 @@
 //! Setpoints by rules that are right but for one: the comparison has to find each.
 
 use super::buffers::MARKS;
-use crate::records::well_formed;
-use mbrb::reference::least_quorum;
+use crate::records::{noted_payload_of, payload_of, well_formed};
+use mbrb::reference::{least_quorum, RecordBytes, SEQS};
 use mbrb::Config;
 
 /// A setpoint and its number.
@@ -16,10 +16,12 @@ type Payload = (usize, Option<i16>);
 pub struct Rules {
     /// the refusals, the one that is tested first in front
     order: &'static [u32],
-    well_formed: fn(&Config, u8, &[u8; 32]) -> bool,
+    well_formed: fn(&Config, u8, &RecordBytes) -> bool,
     /// whether the record of a number is tested at a sender, given what counts there
     tested: fn(usize, &[Numbered]) -> bool,
     states: &'static [u8],
+    /// which payload of a record is looked at
+    payload: fn(&RecordBytes) -> [u8; 16],
     /// the value of a payload, or none if it is no setpoint
     value: fn(&[u8]) -> Option<i16>,
     /// a byte of a payload that is taken to be as in a setpoint, whatever it is
@@ -36,6 +38,7 @@ pub const RIGHT: Rules = Rules {
     well_formed,
     tested: |_, _| true,
     states: &[2],
+    payload: |record| payload_of(record),
     value: |payload| marked(payload).then(|| i16::from_be_bytes([payload[1], payload[2]])),
     unseen: None,
     counts: |payloads| setpoints(payloads).last().into_iter().collect(),
@@ -61,7 +64,7 @@ fn sorted(mut values: Vec<i16>, key: fn(i16) -> i32, place: fn(usize) -> usize) 
 
 impl Rules {
     pub fn code(&self, config: &Config, records: &[u8]) -> u32 {
-        let length = 512 * usize::from(config.n);
+        let length = config.records_length();
         let readable = config.good() && records.len() == length;
         let (values, malformed) = if readable {
             self.pool(config, records)
@@ -83,15 +86,15 @@ impl Rules {
 
     /// The values that count, and whether a record is malformed that is tested.
     fn pool(&self, config: &Config, records: &[u8]) -> (Vec<i16>, bool) {
-        let (records, _) = records.as_chunks::<32>();
+        let (records, _) = records.as_chunks();
         let (mut values, mut malformed) = (Vec::new(), false);
-        for (sender, records) in (0..config.n).zip(records.chunks(16)) {
-            let passes = |record: &[u8; 32]| (self.well_formed)(config, sender, record);
+        for (sender, records) in (0..config.n).zip(records.chunks(SEQS.into())) {
+            let passes = |record: &RecordBytes| (self.well_formed)(config, sender, record);
             let payloads: Vec<_> = records
                 .iter()
                 .enumerate()
                 .filter(|(_, record)| self.states.contains(&record[0]) && passes(record))
-                .map(|(seq, record)| (seq, self.read(&record[16..])))
+                .map(|(seq, record)| (seq, self.read((self.payload)(record))))
                 .collect();
             let counted = (self.counts)(&payloads);
             let mut numbered = records.iter().enumerate();
@@ -102,8 +105,7 @@ impl Rules {
         (values, malformed)
     }
 
-    fn read(&self, payload: &[u8]) -> Option<i16> {
-        let mut payload = payload.to_vec();
+    fn read(&self, mut payload: [u8; 16]) -> Option<i16> {
         if let Some(at) = self.unseen {
             payload[at] = u8::from(at == 0);
         }
@@ -312,6 +314,37 @@ const POOLS: &[(&str, Rules)] = &[
         },
     ),
     (
+        "noted setpoints too, where the payload is none",
+        Rules {
+            payload: |record| match marked(&payload_of(record)) {
+                true => payload_of(record),
+                false => noted_payload_of(record),
+            },
+            ..RIGHT
+        },
+    ),
+    (
+        "noted setpoints before the delivered ones",
+        Rules {
+            payload: |record| match marked(&noted_payload_of(record)) {
+                true => noted_payload_of(record),
+                false => payload_of(record),
+            },
+            ..RIGHT
+        },
+    ),
+    (
+        "noted setpoints of what is held too",
+        Rules {
+            states: &[1, 2],
+            payload: |record| match record[0] {
+                2 => payload_of(record),
+                _ => noted_payload_of(record),
+            },
+            ..RIGHT
+        },
+    ),
+    (
         "setpoints below zero passed over",
         Rules {
             value: |payload| (RIGHT.value)(payload).filter(|&value| value >= 0),
@@ -434,6 +467,17 @@ const REFUSALS: &[(&str, Rules)] = &[
         Rules {
             well_formed: |config, sender, record| {
                 record[0] == 0 || well_formed(config, sender, record)
+            },
+            ..RIGHT
+        },
+    ),
+    (
+        "notes not tested",
+        Rules {
+            well_formed: |config, sender, record| {
+                let mut without = *record;
+                without[32..].fill(0);
+                well_formed(config, sender, &without)
             },
             ..RIGHT
         },

@@ -1,4 +1,4 @@
--- `records_size` meets its contract: 512 times 255 fits. Assumes nothing.
+-- `records_size` meets its contract: 1,024 times 255 fits. Assumes nothing.
 use Rattle.config.specs.Config.{recordsSize}
 use mathlib.Core.Path.{refl}
 use borrow.Author.Needs.{needs}

@@ -4,7 +4,7 @@ use Rattle.record.proofs.Record.delivered.Statement.{statement}
 use Rattle.record.proofs.Record.delivered.Tie as tie
 
 returns : tie.Need-returns
-returns c = delivered-bytes _ _
+returns c = delivered-bytes _ _ _
 
 pub delivered-spec : {M : Type 1} → statement M
 delivered-spec = tie.close (tie.spec returns)

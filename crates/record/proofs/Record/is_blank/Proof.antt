@@ -1,40 +1,51 @@
--- `is_blank` meets its contract: each word is zero. Assumes nothing.
-use mathlib.Core.Path.{_≡_, sym, _∙_}
-use mathlib.Core.Bool.{_&&_}
-use native.Mathlib.Omega.{arith}
-use lib.Dec.{eqb}
-use borrow.Author.Tests.{eq-eqb, ne-eqb}
+-- `is_blank` meets its contract: both halves are asked. Assumes nothing.
+use mathlib.Core.Path.{_≡_, sym, ap, _∙_}
+use mathlib.Core.Bool.{Bool, true, false, _&&_}
+use borrow.Author.Tests.{not-true, not-false}
 use Rattle.octets.specs.Octets.{blank}
+use Rattle.block.specs.Block as block
+use Rattle.block.specs.declared.Block.{Block}
+use Rattle.record.specs.declared.Record.{Record}
+use Rattle.note.specs.Note as note
 use Rattle.record.specs.Record.{bytes}
-use Rattle.record.proofs.Words.{Fits, blank-words}
+use Rattle.record.specs.Inner.{heldBlock}
+use Rattle.record.proofs.Words.{blank-halves}
+use borrow.Author.Needs.{needs}
 use Rattle.record.proofs.Record.is_blank.Statement.{statement}
 use Rattle.record.proofs.Record.is_blank.Tie as tie
+use Rattle.block.proofs.Block.is_blank.Reads as Block-is-blank-reads
+use Rattle.note.proofs.Note.is_blank.Reads as Note-is-blank-reads
+use Rattle.record.proofs.Record.half.Reads as half-reads
 
--- each word fits, as its type says
-words-fit : (c : tie.Start) → Fits (c .args .self)
-words-fit c =
-    record
-    { head-fits = omega arith; signers-fits = omega arith; payload-fits = record { high-fits = omega arith; low-fits = omega arith } }
+-- the record, and what was found of its first half
+abbrev start : tie.After-is-blank → Record
+start c = c .before .before .args .self
 
--- the record's bytes are zero where its words are
-by-words : (c : tie.Start)
-    → blank (bytes (c .args .self))
-    ≡ (eqb (c .args .self .head) 0 && (eqb (c .args .self .signers) 0 && (eqb (c .args .self .payload .high) 0 && eqb (c .args .self .payload .low) 0)))
-by-words c = blank-words (c .args .self) (words-fit c)
+half-blank : (c : tie.After-is-blank) → blank (block.bytes (heldBlock (start c))) ≡ c .is-blank .result
+half-blank c = sym (c .is-blank .ensures ∙ ap (λ (b : Block). blank (block.bytes b)) (c .before .half .ensures))
+
+half-decides : (r : Record) (b : Bool) → blank (block.bytes (heldBlock r)) ≡ b → blank (bytes r) ≡ (b && blank (note.bytes (r .note)))
+half-decides r b e = blank-halves r ∙ ap (λ (x : Bool). x && blank (note.bytes (r .note))) e
 
 -- ---- the needs
 
+half-requires : tie.Need-half-requires
+half-requires c κs = search needs
+
+is-blank-requires : tie.Need-is-blank-requires
+is-blank-requires c κs = search needs
+
 returns : tie.Need-returns
-returns c = sym (by-words (c .before .before) ∙ simp (ne-eqb _ _ (c .if1 .taken)))
+returns c = sym (half-decides (start (c .before)) false (half-blank (c .before) ∙ not-true _ (c .if1 .taken)))
+
+is-blank-requires-2 : tie.Need-is-blank-requires-2
+is-blank-requires-2 c κs = search needs
 
 returns-2 : tie.Need-returns-2
-returns-2 c = sym (by-words (c .before .before .before .before) ∙ simp (eq-eqb _ _ (c .before .before .if1 .left), ne-eqb _ _ (c .if2 .taken)))
-
-returns-3 : tie.Need-returns-3
-returns-3 c = sym (by-words (c .before .before .before .before .before .before) ∙ simp (eq-eqb _ _ (c .before .before .before .before .if1 .left), eq-eqb _ _ (c .before .before .if2 .left), ne-eqb _ _ (c .if3 .taken)))
-
-returns-4 : tie.Need-returns-4
-returns-4 c = sym (by-words (c .before .before .before .before .before .before .before) ∙ rw (eq-eqb _ _ (c .before .before .before .before .before .if1 .left), eq-eqb _ _ (c .before .before .before .if2 .left), eq-eqb _ _ (c .before .if3 .left)))
+returns-2 c =
+    let asked = c .before .before .before in
+    c .is-blank2 .ensures ∙ sym (half-decides (start asked) true (half-blank asked ∙ not-false _ (c .before .before .if1 .left)))
 
 pub is-blank-spec : {M : Type 1} → statement M
-is-blank-spec = tie.close (tie.spec returns returns-2 returns-3 returns-4)
+is-blank-spec =
+    tie.close (tie.spec half-requires is-blank-requires returns is-blank-requires-2 returns-2)

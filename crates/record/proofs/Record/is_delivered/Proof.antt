@@ -7,8 +7,12 @@ use Rattle.record.proofs.Record.is_delivered.Tie as tie
 -- each word fits, as its type says
 words-fit : (c : tie.Start) → Fits (c .args .self)
 words-fit c =
-    record
-    { head-fits = omega arith; signers-fits = omega arith; payload-fits = record { high-fits = omega arith; low-fits = omega arith } }
+    record {
+      head-fits = omega arith;
+      signers-fits = omega arith;
+      payload-fits = record { high-fits = omega arith; low-fits = omega arith };
+      note-fits = record { signers-fits = omega arith; zero-fits = omega arith; payload-fits = record { high-fits = omega arith; low-fits = omega arith } };
+    }
 
 -- ---- the needs
 

@@ -4,7 +4,7 @@ use native.Mathlib.Omega.{arith}
 use borrow.Author.Tests.{not-true, not-false}
 use Rattle.record.specs.Record.{encodedUpdate}
 use Rattle.record.proofs.Words.{Fits}
-use Rattle.record.proofs.WellFormed.{well-formed-has-state}
+use Rattle.record.proofs.WellFormed.{well-formed-has-state, well-formed-note-reads}
 use Rattle.record.proofs.UpdateCases.{received-malformed, received-well-formed, encoded-refused}
 use borrow.Author.Needs.{needs}
 use Rattle.record.proofs.Record.receive.Statement.{statement}
@@ -15,8 +15,12 @@ use Rattle.record.proofs.Record.well_formed.Reads as well-formed-reads
 -- each word fits, as its type says
 words-fit : (c : tie.Start) → Fits (c .args .self)
 words-fit c =
-    record
-    { head-fits = omega arith; signers-fits = omega arith; payload-fits = record { high-fits = omega arith; low-fits = omega arith } }
+    record {
+      head-fits = omega arith;
+      signers-fits = omega arith;
+      payload-fits = record { high-fits = omega arith; low-fits = omega arith };
+      note-fits = record { signers-fits = omega arith; zero-fits = omega arith; payload-fits = record { high-fits = omega arith; low-fits = omega arith } };
+    }
 
 abbrev start : tie.Else1 → tie.Start
 start c = c .before .before
@@ -31,7 +35,10 @@ returns c = encoded-refused _ _ (received-malformed _ _ _ _ _ (sym (c .before .w
 
 update-requires : tie.Need-update-requires
 update-requires c κs =
-    well-formed-has-state (start c .args .self) (words-fit (start c)) (start c .args .config) (start c .args .sender) (sym (c .before .well-formed .ensures) ∙ not-false _ (c .if1 .left))
+    let fine = sym (c .before .well-formed .ensures) ∙ not-false _ (c .if1 .left) in (
+      well-formed-has-state (start c .args .self) (words-fit (start c)) (start c .args .config) (start c .args .sender) fine,
+      well-formed-note-reads (start c .args .self) (words-fit (start c)) (start c .args .config) (start c .args .sender) fine,
+    )
 
 returns-2 : tie.Need-returns-2
 returns-2 c = c .update .ensures ∙ sym (ap encodedUpdate (received-well-formed _ _ _ _ _ (sym (c .before .before .well-formed .ensures) ∙ not-false _ (c .before .if1 .left))))
