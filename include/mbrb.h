@@ -34,7 +34,8 @@
  *      this one among them: a unit delivers its own announcement by taking it back with enough signatures. After any
  *      other code there is nothing to send.
  *   5. After MBRB_DELIVERED act on the body in `out`, before or after sending it. It comes once for each slot.
- *   6. After MBRB_NOTED tell the installer that the bundle's sender says two things (section 12), and go on as before.
+ *   6. After MBRB_NOTED and MBRB_OTHER_BODY, and after MBRB_DELIVERED where `out` is without our bit, tell the installer
+ *      that the bundle's sender says two things (section 12), and go on as before.
  * A code from 1 to 99 is a refusal: no byte has changed, and the number says why. Section 8 says what to do. A preview
  * is none of these steps, and comes between them as often as a display wants it (section 12). To ask for the setpoint
  * of the whole cascade is a part of acting, for a host that heats by it (section 13).
@@ -309,7 +310,8 @@
  *     The cascade delivers what it would without notes.
  *
  * What a note is worth. Its sender is faulty: it has signed both bodies, that of the note and the one that the record
- * holds or has delivered. The same is so after 24. This needs no more than true bits (section 6), so tell the
+ * holds or has delivered. The same is so after 24. After MBRB_DELIVERED `out` is without our bit where our record held
+ * another body until then, which is now the noted one. This needs no more than true bits (section 6), so tell the
  * installer: that unit, or whoever has its key, says two things. Of each other unit a bit says that it signed the body
  * beside it, be it held, delivered or noted; and in the records of all sound units together, the bit of a sound unit
  * stands beside one body of a slot at most. That there is no note says nothing: a faulty sender's two bodies need not
@@ -413,9 +415,9 @@ extern "C" {
 #define MBRB_SETPOINT_AT 1 /* 2 bytes */
 
 /* Where the record of a slot starts in the records. Its first byte is the state below; signers and body lie as in a
- * bundle. Its second half is for a second body of the slot (section 12): noted signers of zero mean that nothing is
- * noted, and all of that half is then zero. What is left is zero. To save it, and for a display: of records that the
- * calls have left. What is to be acted on stands in `out` at MBRB_DELIVERED. */
+ * bundle. Its second half is for a second body of the slot (section 12), and all zero without one. What is left is
+ * zero. To save it, and for a display: of records that the calls have left. What is to be acted on stands in `out` at
+ * MBRB_DELIVERED. */
 #define MBRB_RECORD_AT(sender, number) (((size_t)(sender) * MBRB_NUMBERS + (number)) * MBRB_RECORD_SIZE)
 #define MBRB_RECORD_EMPTY 0
 #define MBRB_RECORD_HELD 1

@@ -226,6 +226,12 @@ static const char *in_words(uint32_t code)
     }
 }
 
+/* Section 12: after a delivery, whether our record held another body until then. What goes out has our bit otherwise. */
+static bool in_place_of_held(const struct unit *unit)
+{
+    return (unit->now.out[MBRB_SIGNERS_AT + 7] >> unit->own & 1) == 0;
+}
+
 /* `arrived` is the bundle of a frame, 32 bytes. The signatures come beside it in the frame, and go to the key chip. */
 static void take(struct unit *unit, const uint8_t *arrived)
 {
@@ -246,7 +252,7 @@ static void take(struct unit *unit, const uint8_t *arrived)
     printf(": %" PRIu32 " %s\n", code, in_words(code));
     if (code == MBRB_SIGNED || code == MBRB_DELIVERED)
         save_and_send(unit, code == MBRB_DELIVERED);
-    if (code == MBRB_NOTED || code == MBRB_OTHER_BODY)
+    if (code == MBRB_NOTED || code == MBRB_OTHER_BODY || (code == MBRB_DELIVERED && in_place_of_held(unit)))
         tell_installer(unit->own, bundle[MBRB_SENDER_AT]);
     stop_if_lost(unit, code);
 }

@@ -13,7 +13,7 @@ pub const SIZE: usize = 32;
 // Where in a block its second word starts, and its payload, with which it ends.
 const SECOND_AT: usize = 8;
 
-const PAYLOAD_AT: usize = 16;
+pub const PAYLOAD_AT: usize = 16;
 
 pub struct Block {
     // bytes 0 to 7

@@ -17,7 +17,7 @@ use Rattle.config.specs.Config.{good, quorum, slots, recordsSize, inRange}
 use Rattle.bundle.specs.declared.Header.{Header}
 use Rattle.bundle.specs.Bundle.{payloadIn, payloadStart, headerIn, headerReasons, readReasons, read, bundleSize, payloadPart, slotIn, slotOf}
 use Rattle.bundle.proofs.Accepted.{accepted-readable, accepted-payload}
-use Rattle.protocol.specs.Update.{Record, noteOf, isDelivered, holds, notesOther, Update, isSecond, updateReasons, updateResult, update}
+use Rattle.protocol.specs.Update.{Record, noteOf, isDelivered, holds, notesOther, Update, otherWithoutQuorum, updateReasons, updateResult, update}
 use Rattle.protocol.proofs.WellFormed.{Bundled}
 use Rattle.record.specs.Record.{encoding, decoded, wellFormed}
 use Rattle.payload.specs.Payload.{payloadSize}
@@ -169,7 +169,7 @@ receive-unknown-says config bundle records out e =
         (sym (or-false _) ∙ refused-asked (updateReasons own q signers payload r) (updateResult own q signers payload r) 23 f) in
         let (waits, rest) =
         refused-clear 23 ((22 if isDelivered r) ∷ [])
-        ((23 if member signers own && not (holds r payload)) ∷ (24 if isSecond own q signers payload r && notesOther (noteOf r) payload) ∷ []) (updateResult own q signers payload r) refl f in
+        ((23 if member signers own && not (holds r payload)) ∷ (24 if otherWithoutQuorum own q signers payload r && notesOther (noteOf r) payload) ∷ []) (updateResult own q signers payload r) refl f in
         (waits, ours, not-true _ apart)
 
     unknown : (h : Header)

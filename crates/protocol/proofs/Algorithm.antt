@@ -16,7 +16,7 @@ use Rattle.signers.specs.Signers.{member, insert, without, union, size}
 use Rattle.signers.proofs.Counting.{more-than-half}
 use Rattle.signers.proofs.Members.{nobody, member-without}
 use Rattle.refusal.specs.Outcome.{unless}
-use Rattle.protocol.specs.Update.{Note, Nothing, Noted, Record, Empty, Held, Delivered, noteOf, isEmpty, isDelivered, holds, notedSigners, notes, notesOther, withNote, Answer, Update, announced, kept, signed, delivered, noted, announcedBy, isSecond, updateReasons, joinedNote, joinedSigners, noteAfter, updateResult, update}
+use Rattle.protocol.specs.Update.{Note, Nothing, Noted, Record, Empty, Held, Delivered, noteOf, isEmpty, isDelivered, holds, notedSigners, notes, notesOther, withNote, Answer, Update, announced, kept, signed, delivered, noted, announcedBy, otherWithoutQuorum, updateReasons, joinedNote, joinedSigners, noteAfter, updateResult, update}
 use Rattle.protocol.specs.Algorithm.{State, Effect, broadcast, deliver, Run, save, sign, bundleEffect, onBroadcast, line9, line5, andLine9, onBundle, keepOne, sendOnce, stateOf, apartOf, effectsOf, SameState, BroadcastFollows, valid, moreThanHalf, atLeast, PassesOver, Follows, UnsignedIgnored, UpdateFollows, LeastQuorumIsLine9, SameOrWaits, StricterQuorumWaits}
 
 -- ---- words and messages
@@ -79,7 +79,7 @@ isNoted noted = true
 
 module _ (own q sender sigs : ℕ) (m : List ℕ) (r : Record) where
   -- where the message is not noted
-  joins-result : isSecond own q sigs m r ≡ false
+  joins-result : otherWithoutQuorum own q sigs m r ≡ false
       → updateResult own q sigs m r
       ≡ cond (leb q (size (joinedSigners own q sigs m r)))
       (record { answer = delivered; newRecord = Delivered (joinedSigners own q sigs m r) m (noteAfter own q sigs m r) })
@@ -89,7 +89,7 @@ module _ (own q sender sigs : ℕ) (m : List ℕ) (r : Record) where
 
   -- If lines 4 to 8 have saved the record's new signers for the message, and have sent a bundle where the record was empty, then receiving follows:
   -- line 9 delivers exactly where receiving does.
-  joins-alike : isSecond own q sigs m r ≡ false → (σ : State) → σ .saved m ≡ joinedSigners own q sigs m r → σ .hasSigned ≡ true → σ .hasDelivered ≡ false
+  joins-alike : otherWithoutQuorum own q sigs m r ≡ false → (σ : State) → σ .saved m ≡ joinedSigners own q sigs m r → σ .hasSigned ≡ true → σ .hasDelivered ≡ false
       → Alike m (updateResult own q sigs m r) (andLine9 own (atLeast q) sender m (record { state = σ; effects = cond (isEmpty r) (bundleEffect m σ ∷ []) [] }))
   unfolding updateResult andLine9 line9 bundleEffect stateOf keepOne effectsOf sendOnce
   joins-alike counts σ e made waits = rw counts (go (leb q (size word)) (isEmpty r) (ap (λ (k : ℕ). leb q (size k)) e))
@@ -114,7 +114,7 @@ module _ (own q sender sigs : ℕ) (m : List ℕ) (r : Record) where
       go false false h = rw h (state-alike false (σ .hasDelivered) (sym waits), refl)
 
   -- the answer is not noted then,
-  joins-answer : isSecond own q sigs m r ≡ false → updateResult own q sigs m r .answer ≡ noted → ⊥
+  joins-answer : otherWithoutQuorum own q sigs m r ≡ false → updateResult own q sigs m r .answer ≡ noted → ⊥
   joins-answer counts e = true≢false (sym (ap isNoted e) ∙ other-answer)
     where
       go : (full fresh : Bool) (x y : Record)
@@ -127,7 +127,7 @@ module _ (own q sender sigs : ℕ) (m : List ℕ) (r : Record) where
       other-answer = ap (λ (u : Update). isNoted (u .answer)) (joins-result counts) ∙ go (leb q (size (joinedSigners own q sigs m r))) (isEmpty r) _ _
 
   -- and what is noted is what the definition says
-  joins-note : isSecond own q sigs m r ≡ false → noteOf (updateResult own q sigs m r .newRecord) ≡ noteAfter own q sigs m r
+  joins-note : otherWithoutQuorum own q sigs m r ≡ false → noteOf (updateResult own q sigs m r .newRecord) ≡ noteAfter own q sigs m r
   unfolding updateResult
   joins-note counts = rw counts (go (leb q (size (joinedSigners own q sigs m r))))
     where
@@ -287,7 +287,7 @@ note-saved sigs m (Noted old first) x known =
     go false = refl
 
 -- a second message is noted, and that is all
-second-noted : (own q sigs : ℕ) (m : List ℕ) (r : Record) → isSecond own q sigs m r ≡ true
+second-noted : (own q sigs : ℕ) (m : List ℕ) (r : Record) → otherWithoutQuorum own q sigs m r ≡ true
     → updateResult own q sigs m r ≡ record { answer = noted; newRecord = withNote (joinedNote own q sigs m r) r }
 unfolding updateResult
 second-noted own q sigs m r e = rw e

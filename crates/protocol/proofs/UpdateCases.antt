@@ -11,7 +11,7 @@ use Rattle.octets.specs.Octets.{same}
 use Rattle.octets.proofs.Same.{same-says, same-not}
 use Rattle.signers.specs.Signers.{member, insert, union, size}
 use Rattle.refusal.specs.Outcome.{Outcome, refused, done, unless, after}
-use Rattle.protocol.specs.Update.{Note, Nothing, Noted, Record, Empty, Held, Delivered, payloadOf, isEmpty, isDelivered, holds, notedSigners, notesOther, Answer, Update, sends, delivers, announced, kept, signed, delivered, noted, announcedBy, isSecond, updateReasons, joinedSigners, updateResult, update}
+use Rattle.protocol.specs.Update.{Note, Nothing, Noted, Record, Empty, Held, Delivered, payloadOf, isEmpty, isDelivered, holds, notedSigners, notesOther, Answer, Update, sends, delivers, announced, kept, signed, delivered, noted, announcedBy, otherWithoutQuorum, updateReasons, joinedSigners, updateResult, update}
 use Rattle.protocol.specs.OneSlot.{Act, Broadcast, Receive, outcome}
 
 -- Why a node refuses: it broadcasts, and its record is in use; the slot is delivered already; the bundle has the node's signature for a payload that its
@@ -125,7 +125,7 @@ pub result-answer : (P : Answer → Type 0) → P kept → P signed → P delive
     → (own q signers : ℕ) (payload : List ℕ) (r : Record) → P (updateResult own q signers payload r .answer)
 unfolding updateResult
 result-answer P k s d n own q signers payload r =
-    go (isSecond own q signers payload r) (leb q (size (joinedSigners own q signers payload r))) (isEmpty r) _ _ _
+    go (otherWithoutQuorum own q signers payload r) (leb q (size (joinedSigners own q signers payload r))) (isEmpty r) _ _ _
   where
     go : (second full fresh : Bool) (x y z : Record)
         → P

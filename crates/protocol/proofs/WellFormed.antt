@@ -16,7 +16,7 @@ use Rattle.signers.specs.Signers.{member, within, insert, union, size}
 use Rattle.signers.proofs.Members.{insert-own, member-insert, union-left, union-right, within-union, within-insert, lt-within}
 use Rattle.refusal.specs.Outcome.{done}
 use Rattle.refusal.proofs.Reasons.{Clear, done-clear}
-use Rattle.protocol.specs.Update.{Note, Nothing, Noted, Record, Empty, Held, Delivered, signersOf, payloadOf, noteOf, isEmpty, notedSigners, withNote, Update, announcedBy, isSecond, updateReasons, joinedNote, joinedSigners, noteAfter, updateResult, update}
+use Rattle.protocol.specs.Update.{Note, Nothing, Noted, Record, Empty, Held, Delivered, signersOf, payloadOf, noteOf, isEmpty, notedSigners, withNote, Update, announcedBy, otherWithoutQuorum, updateReasons, joinedNote, joinedSigners, noteAfter, updateResult, update}
 
 -- what a bundle in this slot has: only known signers, the sender's signature, a payload of 16 bytes
 pub record Bundled (n sender signers : ℕ) (payload : List ℕ) : Type 0 where
@@ -69,10 +69,10 @@ update-done own q signers payload r result e = done-clear (updateReasons own q s
 -- the new record has another note, or is delivered or held by the number of its signers
 pub update-settled : (own q signers : ℕ) (payload : List ℕ) (r : Record)
     → updateResult own q signers payload r .newRecord
-    ≡ cond (isSecond own q signers payload r) (withNote (joinedNote own q signers payload r) r)
+    ≡ cond (otherWithoutQuorum own q signers payload r) (withNote (joinedNote own q signers payload r) r)
     (settled q (joinedSigners own q signers payload r) payload (noteAfter own q signers payload r))
 unfolding updateResult
-update-settled own q signers payload r = go (isSecond own q signers payload r) (leb q (size (joinedSigners own q signers payload r))) _ _ _
+update-settled own q signers payload r = go (otherWithoutQuorum own q signers payload r) (leb q (size (joinedSigners own q signers payload r))) _ _ _
   where
     go : (b c : Bool) (w x y : Update) → cond b w (cond c x y) .newRecord ≡ cond b (w .newRecord) (cond c (x .newRecord) (y .newRecord))
     go true c w x y = refl
@@ -107,7 +107,7 @@ module _ (n sender q own signers : ℕ) (payload : List ℕ) (l : own < n) (most
 
   joined-well-formed : (r : Record) → WellFormed n sender q own r → Clear (updateReasons own q signers payload r)
       → WellFormed n sender q own
-      (cond (isSecond own q signers payload r) (withNote (joinedNote own q signers payload r) r)
+      (cond (otherWithoutQuorum own q signers payload r) (withNote (joinedNote own q signers payload r) r)
       (settled q (joinedSigners own q signers payload r) payload (noteAfter own q signers payload r)))
   unfolding updateReasons joinedSigners
   joined-well-formed Empty h clear =

@@ -174,7 +174,8 @@ module _ (own : ℕ) (enough : ℕ → Bool) (sender sigs : ℕ) (m : List ℕ) 
 
   -- R13.1, done and not answered noted: if the record held another message, the algorithm delivers this one now. Of its state what is saved for this message is
   -- counted (R13.2): it is the message held before, or the first, or the one delivered now. What is sent is what the algorithm sends, without the repeated
-  -- bundle (R13.4), and what is delivered is what it delivers. What it has saved for another message that was held is kept apart then, and else what was so.
+  -- bundle (R13.4), and what is delivered is what it delivers. If another message was held, what the algorithm has saved for it is kept apart now; otherwise
+  -- what was kept apart stays.
   abbrev pub Counts : Update → Type 0
   Counts result =
       (result .answer ≡ noted → ⊥)

@@ -118,8 +118,8 @@ announcedBy own payload = Held (insert 0 own) payload Nothing
 -- A bundle with these signers and this payload, received by a node whose record of the slot is r.
 module _ (own q : ℕ) (signers : ℕ) (payload : List ℕ) (r : Record) where
   -- the bundle has another payload than the one that r holds, and no quorum of signers
-  abbrev pub isSecond : Bool
-  isSecond = holdsOther r payload && ltb (size signers) q
+  abbrev pub otherWithoutQuorum : Bool
+  otherWithoutQuorum = holdsOther r payload && ltb (size signers) q
 
   -- R5.5: 22, the slot is delivered here; 23, the node is a signer of the bundle, and r does not hold its payload; 24, r holds another payload and notes a
   -- third, and the bundle has no quorum of signers
@@ -127,7 +127,7 @@ module _ (own q : ℕ) (signers : ℕ) (payload : List ℕ) (r : Record) where
   updateReasons =
       (22 if isDelivered r)
       ∷ (23 if member signers own && not (holds r payload))
-      ∷ (24 if isSecond && notesOther (noteOf r) payload)
+      ∷ (24 if otherWithoutQuorum && notesOther (noteOf r) payload)
       ∷ []
 
   -- R8.14: what is noted of a second payload: its signers so far and those of the bundle, each once
@@ -147,7 +147,7 @@ module _ (own q : ℕ) (signers : ℕ) (payload : List ℕ) (r : Record) where
   -- else held; then the answer is signed or kept (R8.6).
   unfoldable pub updateResult : Update
   updateResult =
-      cond isSecond (record { answer = noted; newRecord = withNote joinedNote r })
+      cond otherWithoutQuorum (record { answer = noted; newRecord = withNote joinedNote r })
       (cond (leb q (size joinedSigners))
       (record { answer = delivered; newRecord = Delivered joinedSigners payload noteAfter })
       (record { answer = cond (isEmpty r) signed kept; newRecord = Held joinedSigners payload noteAfter }))

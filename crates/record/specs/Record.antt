@@ -8,6 +8,7 @@ use lib.Dec.{ltb, leb, eqb}
 use lib.ListN.{length, getD, replicate}
 use Rattle.octets.specs.Octets.{number, bytesOf, part, blank}
 use Rattle.payload.specs.Payload as payload
+use Rattle.block.specs.Block as block
 use Rattle.signers.specs.Signers.{member, within, size}
 use Rattle.refusal.specs.Refusal.{numberOf}
 use Rattle.refusal.specs.Outcome.{Outcome, refused, done, _if_, checked, _and-then_}
@@ -29,15 +30,15 @@ encoding Empty = replicate recordSize 0
 encoding (Held signers payload aside) = layout 1 signers payload (note.encoding aside)
 encoding (Delivered signers payload aside) = layout 2 signers payload (note.encoding aside)
 
--- where the signers start, the payload after them, and what is noted after that
+-- both halves are blocks (R4.1): where the signers start, byte 8, the payload after them, and what is noted after that, byte 32
 abbrev pub signersAt : ℕ
-signersAt = 8
+signersAt = block.secondAt
 
 abbrev pub payloadAt : ℕ
-payloadAt = 16
+payloadAt = block.payloadAt
 
 abbrev pub noteAt : ℕ
-noteAt = 32
+noteAt = block.blockSize
 
 abbrev pub stateField : List ℕ → ℕ
 stateField bytes = getD bytes 0 0

@@ -26,9 +26,9 @@ const HELD: u64 = 0x100_0000_0000_0000;
 const DELIVERED: u64 = 0x200_0000_0000_0000;
 
 // Where in a record its payload starts, and what it notes, with which it ends.
-pub const PAYLOAD_AT: usize = 16;
+pub const PAYLOAD_AT: usize = block::PAYLOAD_AT;
 
-const NOTE_AT: usize = 32;
+const NOTE_AT: usize = block::SIZE;
 
 pub struct Record {
     // the state's byte and seven that are zero
