@@ -55,7 +55,8 @@ impl Block {
         );
     }
 
-    // Whether all 32 bytes are zero.
+    // Whether all 32 bytes are zero. The payload's words are asked for here: with `payload.is_blank()` in their place the search
+    // for a number has three instructions more for each record.
     pub fn is_blank(self) -> bool
         ensures { λ r. ⌜ r ≡ blank (bytes self) ⌝ }
     {

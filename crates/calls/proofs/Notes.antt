@@ -1,6 +1,6 @@
 -- What a record notes never counts, of the call: what specs/Notes.antt claims, from the same on values. The refusals before the update are the same on both
 -- buffers, since neither the length nor a well-formed record refuses one of them alone. Assumes nothing.
-use mathlib.Core.Path.{_≡_, refl, sym, ap, _∙_}
+use mathlib.Core.Path.{_≡_, refl, sym, ap, _∙_, subst}
 use mathlib.Core.Bool.{Bool, true, false, cond, not}
 use mathlib.Core.List.{List, [], _∷_}
 use Prim.Native.Nat.{ℕ}
@@ -20,6 +20,7 @@ use Rattle.calls.specs.Records.{recordAt}
 use Rattle.calls.specs.Receive.{recordBundle, receiveReasons, receive, receiveOut}
 use Rattle.calls.specs.Algorithm.{recordOf}
 use Rattle.calls.specs.Notes.{NotesNeverCount}
+use Rattle.calls.proofs.ReceiveFacts.{read-says}
 
 -- the outgoing bytes, by the bundle that is sent
 outBy : Slot → List (ℕ × List ℕ) → (out : List ℕ) → List ℕ
@@ -57,16 +58,43 @@ either : (config : Config) (bundle : List ℕ) (h : Header) (r other : Record) �
 either config bundle h r other same (refused number) = record { answers = refl; records = same; sendings = refl }
 either config bundle h r other same (done _) = values.notes-never-count (config .own) (quorum config) (h .signers) (payloadPart config bundle) r other same
 
+-- alike at the records of a slot
+abbrev Alike : (config : Config) (bundle records others out : List ℕ) (slot : Slot) → Type 0
+Alike config bundle records others out slot =
+    wellFormed config (slot .sender) (recordAt config slot records) ≡ true
+    → wellFormed config (slot .sender) (recordAt config slot others) ≡ true
+    → heldHalf (recordOf config slot records) ≡ heldHalf (recordOf config slot others)
+    → SameButNotes (recordOf config slot records) (recordOf config slot others) (receive config bundle records out) (receive config bundle others out)
+
+accepted : (config : Config) (bundle records others out : List ℕ) (h : Header) → read config bundle ≡ done h → length records ≡ length others
+    → Alike config bundle records others out (slotOf h)
+accepted config bundle records others out h e l fine others-fine same =
+    rw (received config bundle records out h (length others) e l fine, received config bundle others out h (length others) e refl others-fine) at
+    (either config bundle h (recordOf config (slotOf h) records) (recordOf config (slotOf h) others) same (before config out (length others)))
+
+-- a bundle that reading refuses is refused before a record is looked at
+unread : (config : Config) (bundle records out : List ℕ) (number : ℕ) → read config bundle ≡ refused number
+    → receive config bundle records out ≡ refused number
+unfolding receive
+unread config bundle records out number e = rw e
+
+alike : (config : Config) (bundle records others out : List ℕ) → length records ≡ length others → Alike config bundle records others out (slotIn bundle)
+alike config bundle records others out l = go (read config bundle) refl
+  where
+    go : (o : Outcome Header) → read config bundle ≡ o → Alike config bundle records others out (slotIn bundle)
+    go (done h) e fine others-fine same =
+        subst (Alike config bundle records others out) (sym (read-says config bundle h e .slot-named)) (accepted config bundle records others out h e l)
+        fine others-fine same
+    go (refused number) e fine others-fine same =
+        rw (unread config bundle records out number e, unread config bundle others out number e)
+        (record { answers = refl; records = same; sendings = refl })
+
 pub notes-never-count : NotesNeverCount
 unfolding receiveOut
-notes-never-count config bundle records others out h e l fine others-fine same =
-    let r = recordOf config (slotOf h) records in
-    let other = recordOf config (slotOf h) others in
-    let alike : SameButNotes r other (receive config bundle records out) (receive config bundle others out) =
-    rw (received config bundle records out h (length others) e l fine, received config bundle others out h (length others) e refl others-fine) at
-    (either config bundle h r other same (before config out (length others))) in (
-      alike,
+notes-never-count config bundle records others out l fine others-fine same =
+    let same-but-notes = alike config bundle records others out l fine others-fine same in (
+      same-but-notes,
       out-sent (slotIn bundle) (receive config bundle records out) out
-          ∙ ap (λ (x : List (ℕ × List ℕ)). outBy (slotIn bundle) x out) (alike .sendings)
+          ∙ ap (λ (x : List (ℕ × List ℕ)). outBy (slotIn bundle) x out) (same-but-notes .sendings)
           ∙ sym (out-sent (slotIn bundle) (receive config bundle others out) out),
     )

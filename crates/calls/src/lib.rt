@@ -230,8 +230,8 @@ enum Decision {
     Refused(Refusal),
 }
 
-// R8.1 to R8.6, R8.14 and R8.16: reads the bundle, checks the buffers, loads the slot's record and hands it the bundle. Receiving and its
-// preview differ in what becomes of this.
+// R8.1 to R8.6, R8.14 and R8.16: reads the bundle, checks the buffers, loads the slot's record and hands it the bundle.
+// Receiving and its preview differ in what becomes of this.
 fn decide(config: Config, bundle: &[u8], records: &[u8], outgoing: &[u8]) -> Decision
     ensures { λ r. ⌜ decisionOf r ≡ encodedUpdate (receiveOf config (now (bundle .entry)) (now (records .entry)) (now (outgoing .entry))) ⌝ }
     ensures { λ r. ⌜ Placed config (now (bundle .entry)) (now (records .entry)) r ⌝ }
@@ -268,8 +268,8 @@ fn store(start: usize, received: Received, records: &mut [u8])
     }
 }
 
-// R8.6 to R8.8, R8.14: the answer to a bundle, and what goes out: the record's bundle, which is in the slot of the one that came
-// in.
+// R8.6 to R8.8, R8.14: the answer to a bundle, and what goes out: the record's bundle, which is in the slot of the one
+// that came in.
 fn answer(bundle: &[u8], received: Received, out: &mut [u8]) -> Receipt
     ensures { λ r. ⌜ receiptOf r ≡ settledReceipt (receivedOf received) ⌝ }
     ensures { λ _. ⌜ now (out .exit) ≡ settledOut (now (bundle .entry)) (receivedOf received) (now (out .entry)) ⌝ }
