@@ -22,31 +22,13 @@ use Rattle.protocol.specs.Trace.{each}
 use Rattle.protocol.specs.Update.{isDelivered}
 use Rattle.protocol.proofs.ComputedTests.{each-says}
 use Rattle.record.specs.Record.{decoded, payloadAt, payloadField}
-use Rattle.calls.specs.Records.{recordAt}
+use Rattle.calls.specs.Records.{recordAt, slotWellFormed, allWellFormed}
 use Rattle.calls.specs.Showing.{deliveredPart}
 use Rattle.calls.proofs.Refusals.{delivered-not, delivered-done}
 use Rattle.setpoint.specs.Setpoint.{setpointIn, isSetpoint, hundredths}
 use Rattle.middle.specs.Middle.{lowerMiddle}
-use Rattle.pool.specs.Pool.{deliveredSetpoint, deliveredSetpoints, latest, pooled, pool, slotWellFormed, allWellFormed, setpointReasons, setpoint}
+use Rattle.pool.specs.Pool.{deliveredSetpoint, deliveredSetpoints, latest, pooled, pool, setpointReasons, setpoint}
 use Rattle.pool.specs.Inner.{foundIn}
-
--- ---- a test of each number below n
-
-pub each-next : (n : ℕ) (test : ℕ → Bool) → each test n ≡ true → test n ≡ true → each test (n + 1) ≡ true
-unfolding each
-each-next n test below here = rw (add-one n, here) below
-
-pub each-fails : (n k : ℕ) (test : ℕ → Bool) → k < n → test k ≡ false → each test n ≡ false
-each-fails n k test h fails = go (each test n) refl
-  where
-    go : (m : Bool) → each test n ≡ m → each test n ≡ false
-    go true p = absurd (true≢false (sym (each-says test n k p h) ∙ fails))
-    go false p = p
-
-pub each-passes : (n : ℕ) (test : ℕ → Bool) → ((k : ℕ) → k < n → test k ≡ true) → each test n ≡ true
-unfolding each
-each-passes zero test all = refl
-each-passes (suc n) test all = rw (all n (omega arith)) (each-passes n test (λ k h. all k (omega arith)))
 
 -- ---- a sender's records, one by one
 

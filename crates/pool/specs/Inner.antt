@@ -7,7 +7,8 @@ use Prim.Native.Nat.{ℕ, _≤_}
 use lib.IntN.{ℤ}
 use lib.ListN.{take}
 use Rattle.config.specs.declared.Config.{Config}
-use Rattle.pool.specs.Pool.{latest, senderWellFormed, allWellFormed, pool}
+use Rattle.calls.specs.Records.{senderWellFormed, allWellFormed}
+use Rattle.pool.specs.Pool.{latest, pool}
 use Rattle.pool.specs.declared.Latest.{Latest}
 use Rattle.pool.specs.declared.Collection.{Collection}
 use Rattle.pool.specs.declared.Collection.the-variants.{Pool, Malformed}

@@ -1,6 +1,6 @@
 -- RULES section 18: one setpoint from what a node has delivered.
 -- Assumes nothing.
-use mathlib.Core.Bool.{Bool, not}
+use mathlib.Core.Bool.{not}
 use mathlib.Core.List.{List, [], _∷_, _++_}
 use Prim.Native.Nat.{ℕ, zero, suc, _+_, _*_}
 use lib.Dec.{ltb}
@@ -10,9 +10,7 @@ use Rattle.refusal.specs.Refusal.{numberOf}
 use Rattle.refusal.specs.Outcome.{Outcome, refused, done, Reason, _if_, unless}
 use Rattle.config.specs.declared.Config.{Config}
 use Rattle.config.specs.Config.{good, slots, slotOfDay}
-use Rattle.protocol.specs.Trace.{each}
-use Rattle.record.specs.Record.{wellFormed}
-use Rattle.calls.specs.Records.{recordAt, wrongSize}
+use Rattle.calls.specs.Records.{wrongSize, allWellFormed}
 use Rattle.calls.specs.Showing.{deliveredPart}
 use Rattle.setpoint.specs.Setpoint.{setpointIn}
 use Rattle.middle.specs.Middle.{lowerMiddle}
@@ -41,22 +39,12 @@ module _ (config : Config) (records : List ℕ) where
   unfoldable pub pool : List ℤ
   pool = pooled (config .n)
 
-  -- 21 looks at every record of the buffer
-  unfoldable pub slotWellFormed : (sender seq : ℕ) → Bool
-  slotWellFormed sender seq = wellFormed config sender (recordAt config (slotOfDay config sender seq) records)
-
-  unfoldable pub senderWellFormed : (sender : ℕ) → Bool
-  senderWellFormed sender = each (slotWellFormed sender) slots
-
-  unfoldable pub allWellFormed : Bool
-  allWellFormed = each senderWellFormed (config .n)
-
   -- R18.7: what it tests
   unfoldable pub setpointReasons : List Reason
   setpointReasons =
       (1 if not (good config))
       ∷ (20 if wrongSize config records)
-      ∷ (21 if not allWellFormed)
+      ∷ (21 if not (allWellFormed config records))
       ∷ (27 if ltb (length pool) (2 * config .t + 1))
       ∷ []
 

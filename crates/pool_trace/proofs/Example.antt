@@ -16,13 +16,14 @@ use Rattle.config.specs.declared.Slot.{Slot}
 use Rattle.protocol.specs.Trace as trace
 use Rattle.protocol.specs.Trace.{Trace, start, _then_calls_, each}
 use Rattle.calls.specs.Showing.{deliveredReasons, delivered, deliveredPart}
+use Rattle.calls.specs.Records.{slotWellFormed, senderWellFormed, allWellFormed}
 use Rattle.system.specs.Demand3.{Call, Open, Broadcast, Receive, System, inSlot, correct, opens, announcesIn, announces, sends, sendsIn, signs, buffer, ever, Assumed}
 use Rattle.system.proofs.Computing.{calls-compute}
 use Rattle.system.proofs.ComputedTests.{given-before, unforged-now, unforged-test, lawful-test, lawful-says}
 use Rattle.signed.specs.Signed.{signed}
 use Rattle.setpoint.specs.Setpoint.{isSetpoint, hundredths, setpointIn}
 use Rattle.middle.specs.Middle.{insert, sorted, lowerMiddle}
-use Rattle.pool.specs.Pool.{deliveredSetpoint, deliveredSetpoints, latest, pooled, pool, slotWellFormed, senderWellFormed, allWellFormed, setpointReasons, setpoint}
+use Rattle.pool.specs.Pool.{deliveredSetpoint, deliveredSetpoints, latest, pooled, pool, setpointReasons, setpoint}
 use Rattle.pool_trace.specs.Announced.{AnnouncedSetpoint, setpointAt}
 use Rattle.pool_trace.specs.Example.{fourNodes, four, saying, first, second, third, swapped, announcing, gets, oneFaulty, twoPooled, list, middle, SwappedSensorsList, twoFaulty, overrun, DraggedByTwo}
 

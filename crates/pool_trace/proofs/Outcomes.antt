@@ -20,6 +20,8 @@ use Rattle.protocol.specs.Trace.{Trace}
 use Rattle.calls.proofs.NoEffect.{refused-showing-gives-nothing}
 use Rattle.calls.specs.Showing.{delivered}
 use Rattle.calls.proofs.Refusals.{delivered-malformed}
+use Rattle.calls.specs.Records.{slotWellFormed, senderWellFormed, allWellFormed}
+use Rattle.protocol.proofs.ComputedTests.{each-passes}
 use Rattle.system.specs.Demand3.{Call, System, configAt, correct, deliversIn, buffer, ever, called, Assumed}
 use Rattle.system.specs.Order.{Orderly}
 use Rattle.system.specs.Shown.{shownPlace, shownPayload}
@@ -29,8 +31,8 @@ use Rattle.system.proofs.OrderlyRefusals.{never-malformed}
 use Rattle.system.proofs.Shown.{shown-answered, shown-agrees}
 use Rattle.setpoint.specs.Setpoint.{setpointIn}
 use Rattle.middle.specs.Middle.{lowerMiddle}
-use Rattle.pool.specs.Pool.{deliveredSetpoint, pool, slotWellFormed, senderWellFormed, allWellFormed}
-use Rattle.pool.proofs.Pool.{each-passes, setpoint-few, setpoint-done}
+use Rattle.pool.specs.Pool.{deliveredSetpoint, pool}
+use Rattle.pool.proofs.Pool.{setpoint-few, setpoint-done}
 use Rattle.pool_trace.specs.Announced.{setpointAt, RefusedByTooFewAlone, SameDeliveriesSameOutcome}
 use Rattle.pool_trace.proofs.SamePool.{pool-same}
 

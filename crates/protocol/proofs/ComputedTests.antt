@@ -1,10 +1,11 @@
 -- `Lawful` and `Reached` of specs/OneSlot.antt as tests that can be computed over a trace, and that a trace which passes the test has the property.
 -- Proved for any trace, by induction over its acts. For a trace that is written out only the test has to be computed.
 -- Assumes nothing.
-use mathlib.Core.Path.{_≡_, refl, sym}
+use mathlib.Core.Path.{_≡_, refl, sym, _∙_}
 use mathlib.Core.Bool.{Bool, true, false, cond, _&&_, _||_, and-eq-true-iff, true≢false}
 use mathlib.Core.List.{List}
 use Prim.Native.Nat.{ℕ, zero, suc, _+_, _<_}
+use native.Mathlib.Numerals.{add-one}
 use native.Mathlib.Omega.{arith}
 use lib.Arith.{lt-of-le-ne}
 use lib.Dec.{leb, eqb}
@@ -31,6 +32,22 @@ each-says test (suc n) u e l =
     go : test n ≡ true → (u < n → test u ≡ true) → (b : Bool) → eqb u n ≡ b → test u ≡ true
     go last below true h = rw (eqb-true u n h) last
     go last below false h = below (lt-of-le-ne (omega arith) (eqb-false u n h))
+
+pub each-next : (n : ℕ) (test : ℕ → Bool) → each test n ≡ true → test n ≡ true → each test (n + 1) ≡ true
+unfolding each
+each-next n test below here = rw (add-one n, here) below
+
+pub each-fails : (n k : ℕ) (test : ℕ → Bool) → k < n → test k ≡ false → each test n ≡ false
+each-fails n k test h fails = go (each test n) refl
+  where
+    go : (m : Bool) → each test n ≡ m → each test n ≡ false
+    go true p = absurd (true≢false (sym (each-says test n k p h) ∙ fails))
+    go false p = p
+
+pub each-passes : (n : ℕ) (test : ℕ → Bool) → ((k : ℕ) → k < n → test k ≡ true) → each test n ≡ true
+unfolding each
+each-passes zero test all = refl
+each-passes (suc n) test all = rw (all n (omega arith)) (each-passes n test (λ k h. all k (omega arith)))
 
 -- an implication as a test
 abbrev pub implies : Bool → Bool → Bool

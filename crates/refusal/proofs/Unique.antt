@@ -8,7 +8,7 @@ use Rattle.refusal.specs.Outcome.{Outcome, refused}
 use Rattle.refusal.specs.Refusal.{numberOf, verdictOf}
 use Rattle.refusal.proofs.Reasons.{refused-not-done}
 use Rattle.refusal.specs.declared.Refusal.{Refusal}
-use Rattle.refusal.specs.declared.Refusal.the-variants.{BadConfig, BundleLength, ReservedBytes, OtherDay, SenderRange, SeqRange, SignerRange, SenderUnsigned, PayloadLength, OutLength, RecordsLength, MalformedRecord, AlreadyDelivered, OwnSignatureUnknown, OtherPayload, NoFreeSlot, NotDelivered, TooFewSetpoints}
+use Rattle.refusal.specs.declared.Refusal.the-variants.{BadConfig, BundleLength, ReservedBytes, OtherDay, SenderRange, SeqRange, SignerRange, SenderUnsigned, PayloadLength, OutLength, RecordsLength, MalformedRecord, AlreadyDelivered, OwnSignatureUnknown, OtherPayload, NoFreeSlot, NotDelivered, TooFewSetpoints, SameNode}
 use Rattle.refusal.specs.declared.Verdict.{Verdict}
 use Rattle.refusal.specs.declared.Verdict.the-variants.{Done, Refused}
 
@@ -35,6 +35,7 @@ byNumber =
     ∷ NoFreeSlot
     ∷ NotDelivered
     ∷ TooFewSetpoints
+    ∷ SameNode
     ∷ []))
 
 -- the reason of a number
@@ -61,6 +62,7 @@ found OtherPayload = refl
 found NoFreeSlot = refl
 found NotDelivered = refl
 found TooFewSetpoints = refl
+found SameNode = refl
 
 pub number-one : (a b : Refusal) → numberOf a ≡ numberOf b → a ≡ b
 number-one a b e = sym (found a) ∙ ap reasonOf e ∙ found b

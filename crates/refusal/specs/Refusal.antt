@@ -1,9 +1,9 @@
--- R5.4, for 1 to 10, and R5.5, for 20 to 27: the number of each reason, under the condition on which it applies.
+-- R5.4, for 1 to 10, and R5.5, for 20 to 28: the number of each reason, under the condition on which it applies.
 -- Assumes nothing.
 use Prim.Native.Nat.{ℕ}
 use Rattle.refusal.specs.Outcome.{Outcome, refused, done}
 use Rattle.refusal.specs.declared.Refusal.{Refusal}
-use Rattle.refusal.specs.declared.Refusal.the-variants.{BadConfig, BundleLength, ReservedBytes, OtherDay, SenderRange, SeqRange, SignerRange, SenderUnsigned, PayloadLength, OutLength, RecordsLength, MalformedRecord, AlreadyDelivered, OwnSignatureUnknown, OtherPayload, NoFreeSlot, NotDelivered, TooFewSetpoints}
+use Rattle.refusal.specs.declared.Refusal.the-variants.{BadConfig, BundleLength, ReservedBytes, OtherDay, SenderRange, SeqRange, SignerRange, SenderUnsigned, PayloadLength, OutLength, RecordsLength, MalformedRecord, AlreadyDelivered, OwnSignatureUnknown, OtherPayload, NoFreeSlot, NotDelivered, TooFewSetpoints, SameNode}
 use Rattle.refusal.specs.declared.Verdict.{Verdict}
 use Rattle.refusal.specs.declared.Verdict.the-variants.{Done, Refused}
 
@@ -44,6 +44,8 @@ numberOf NoFreeSlot = 25
 numberOf NotDelivered = 26
 -- fewer than 2t + 1 senders have a delivered setpoint
 numberOf TooFewSetpoints = 27
+-- the two buffers of records are of one node
+numberOf SameNode = 28
 
 -- the outcome that a verdict tells (R17.3): the number of its reason, or that the work is done
 abbrev pub verdictOf : Verdict → Outcome Unit

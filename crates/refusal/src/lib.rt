@@ -23,6 +23,7 @@ pub enum Refusal {
     NoFreeSlot,
     NotDelivered,
     TooFewSetpoints,
+    SameNode,
 }
 
 // The answer of a call that has nothing to tell where it did its work.
@@ -54,5 +55,6 @@ pub fn number(reason: Refusal) -> u32
         Refusal::NoFreeSlot => 25,
         Refusal::NotDelivered => 26,
         Refusal::TooFewSetpoints => 27,
+        Refusal::SameNode => 28,
     }
 }

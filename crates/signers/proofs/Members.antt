@@ -7,13 +7,14 @@ use Prim.Native.Nat.{ℕ, zero, suc, _+_, _*_, _/_, _%_, _^_, _-_, _≤_, _<_, z
 use native.Mathlib.Nat.{eq-zero-or-pos, zero-lt-suc, lt-of-lt-of-le, lt-of-not-le, lt-suc-self, one-mul, pow-suc, mod-lt, mul-mod-left, div-one, div-eq-of-lt, div-eq-of-lt-le}
 use native.Mathlib.Numerals.{one-add}
 use native.Mathlib.Omega.{arith}
-use borrow.Author.Tests.{ltb-true, ltb-false, lt-ltb, le-ltb, leb-true, leb-false, le-leb, lt-leb, eqb-true, eq-eqb, ne-eqb}
+use borrow.Author.Tests.{ltb-true, ltb-false, lt-ltb, le-ltb, leb-true, leb-false, le-leb, lt-leb, eqb-true, eqb-false, eq-eqb, ne-eqb}
+use lib.Arith.{lt-of-le-ne}
 use lib.Bits.{bitAnd, bitOr, or-shr, or-mod, or-lt, and-shr, and-mod, and-lt, and-zero-r}
 use lib.Count.{ones-step, ones-le, leading-top}
 use lib.Dec.{ltb, leb, eqb, leb·suc-suc, eqb·suc-suc, eqb·zero-suc, eqb·suc-zero, lit<}
 use lib.Pow.{pow-pos, pow-mono, pow-lt, shr-shr, shl-exact, ones-split, ones-lt, high, le-ones, lt-of-le-ones}
 use Rattle.signers.specs.Sets.{NodeSet, indicator, count, both, either}
-use Rattle.signers.specs.Signers.{member, insert, without, union, size, meets, below, within}
+use Rattle.signers.specs.Signers.{member, insert, without, union, common, size, meets, below, within, wordOf}
 use Rattle.signers.proofs.Counting.{count-same, count-mono, count-none, count-single, count-some, count-first, count-either, quorums-share-correct}
 
 -- ---- the bits of a word
@@ -96,7 +97,7 @@ pub member-union : (a b u : ℕ) → member (union a b) u ≡ (member a u || mem
 member-union = member-op bitOr (λ p q. p || q) or-shr or-mod or-digit
 
 -- a node is in the common part if it is in both words
-pub member-common : (a b u : ℕ) → member (bitAnd a b) u ≡ (member a u && member b u)
+pub member-common : (a b u : ℕ) → member (common a b) u ≡ (member a u && member b u)
 member-common = member-op bitAnd (λ p q. p && q) and-shr and-mod and-digit
 
 -- the word 2 to the power v has node v alone
@@ -271,6 +272,37 @@ within-insert a v n h l = go (ltb v 64)
     go : (m : Bool) → within (cond m (bitOr a (2 ^ v)) a) n ≡ true
     go true = within-union a (2 ^ v) n h (lt-within (2 ^ v) n (pow-lt l))
     go false = h
+
+-- ---- the word of a set
+
+pub word-within : (p : NodeSet) (n : ℕ) → within (wordOf p n) n ≡ true
+unfolding wordOf
+word-within p zero = lt-within 0 0 (pow-pos 0)
+word-within p (suc n) =
+    go (lt-within (wordOf p n) (suc n) (lt-of-lt-of-le (within-lt (wordOf p n) n (word-within p n)) (pow-mono (omega arith)))) (p n)
+  where
+    go : within (wordOf p n) (suc n) ≡ true → (m : Bool) → within (cond m (insert (wordOf p n) n) (wordOf p n)) (suc n) ≡ true
+    go wider true = within-insert (wordOf p n) n (suc n) wider (lt-suc-self n)
+    go wider false = wider
+
+-- its members are those of the set
+pub member-word : (p : NodeSet) (n u : ℕ) → n ≤ 64 → u < n → member (wordOf p n) u ≡ p u
+unfolding wordOf
+member-word p zero u most h = absurd (omega arith)
+member-word p (suc n) u most h = go (p n) refl (eqb u n) refl (λ l. member-word p n u (omega arith) l)
+  where
+    go : (m : Bool) → p n ≡ m → (e : Bool) → eqb u n ≡ e → (u < n → member (wordOf p n) u ≡ p u) → member (cond m (insert (wordOf p n) n) (wordOf p n)) u ≡ p u
+    go true is true here below = rw (eqb-true u n here) (insert-own (wordOf p n) n (omega arith) ∙ sym is)
+    go true is false here below =
+        let other = eqb-false u n here in
+        member-insert (wordOf p n) n u (omega arith) ∙ rw here (or-false (member (wordOf p n) u) ∙ below (lt-of-le-ne (omega arith) other))
+    go false is true here below = rw (eqb-true u n here) (member-below (wordOf p n) n n (within-lt (wordOf p n) n (word-within p n)) (omega arith) ∙ sym is)
+    go false is false here below = let other = eqb-false u n here in below (lt-of-le-ne (omega arith) other)
+
+-- and a word that has them is that one
+pub word-same : (a : ℕ) (p : NodeSet) (n : ℕ) → n ≤ 64 → a < 2 ^ n → ((u : ℕ) → u < n → member a u ≡ p u) → a ≡ wordOf p n
+word-same a p n most h same =
+    same-members a (wordOf p n) n h (within-lt (wordOf p n) n (word-within p n)) (λ u l. same u l ∙ sym (member-word p n u most l))
 
 -- ---- sizes
 

@@ -1,10 +1,11 @@
 -- R3.2: sets of nodes as words of 64 bits. Node u has bit u, which is worth 2 to the power u.
 -- Assumes nothing.
 use mathlib.Core.Bool.{Bool, not, cond}
-use Prim.Native.Nat.{ℕ, _-_, _/_, _%_, _^_}
+use Prim.Native.Nat.{ℕ, zero, suc, _-_, _/_, _%_, _^_}
 use lib.Dec.{eqb, ltb, leb}
 use lib.Bits.{bitAnd, bitOr}
 use lib.Count.{ones}
+use Rattle.signers.specs.Sets.{NodeSet}
 
 -- bit u of the word is set
 unfoldable pub member : ℕ → ℕ → Bool
@@ -22,13 +23,17 @@ without set node = cond (member set node) (set - 2 ^ node) set
 abbrev pub union : ℕ → ℕ → ℕ
 union a b = bitOr a b
 
+-- the bits that both words have
+abbrev pub common : ℕ → ℕ → ℕ
+common a b = bitAnd a b
+
 -- how many bits are set
 abbrev pub size : ℕ → ℕ
 size set = ones set
 
 -- a bit that both words have
 unfoldable pub meets : ℕ → ℕ → Bool
-meets a b = not (eqb (bitAnd a b) 0)
+meets a b = not (eqb (common a b) 0)
 
 -- bits 0 to n - 1, the mask of R2.4; a word has 64 bits
 unfoldable pub below : ℕ → ℕ
@@ -37,3 +42,8 @@ below n = cond (leb n 64) (2 ^ n - 1) (2 ^ 64 - 1)
 -- no bit at n or above is set, as R4.4 asks of a record and 7 of a bundle
 unfoldable pub within : ℕ → ℕ → Bool
 within set n = ltb set (2 ^ n)
+
+-- the word of a set: of the nodes below n, at most 64, those that are in the set have their bit
+unfoldable pub wordOf : NodeSet → (n : ℕ) → ℕ
+wordOf p zero = 0
+wordOf p (suc n) = cond (p n) (insert (wordOf p n) n) (wordOf p n)

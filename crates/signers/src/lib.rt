@@ -3,7 +3,7 @@
 // A bundle and a record keep the nodes that signed a payload as such a word. Every function is
 // defined for every argument; a node number of 64 or more has no bit, so no set has it.
 ghost use mathlib.Core.Path.{_≡_};
-ghost use Rattle.signers.specs.Signers.{member as isMember, insert as inserted, union as united, size as sized, meets as isMet, below as allBelow};
+ghost use Rattle.signers.specs.Signers.{member as isMember, insert as inserted, union as united, common as shared, size as sized, meets as isMet, below as allBelow};
 
 // Whether `node` is in `set`.
 pub fn member(set: u64, node: u8) -> bool
@@ -30,6 +30,13 @@ pub fn union(a: u64, b: u64) -> u64
     ensures { λ r. ⌜ r ≡ united a b ⌝ }
 {
     a | b
+}
+
+// The nodes that are in both.
+pub fn common(a: u64, b: u64) -> u64
+    ensures { λ r. ⌜ r ≡ shared a b ⌝ }
+{
+    a & b
 }
 
 // How many nodes are in `set`: the ones of the word, counted (R17.9).

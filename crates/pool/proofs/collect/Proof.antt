@@ -17,9 +17,11 @@ use mir.Val.{ofZ, toZ}
 use Rattle.config.specs.declared.Config.{Config}
 use Rattle.config.proofs.Laws.{good-says}
 use Rattle.protocol.specs.Trace.{each}
-use Rattle.pool.specs.Pool.{pooled, pool, senderWellFormed, allWellFormed}
+use Rattle.calls.specs.Records.{senderWellFormed, allWellFormed}
+use Rattle.protocol.proofs.ComputedTests.{each-next, each-fails}
+use Rattle.pool.specs.Pool.{pooled, pool}
 use Rattle.pool.specs.Inner.{foundIn}
-use Rattle.pool.proofs.Pool.{each-next, each-fails, pooled-next}
+use Rattle.pool.proofs.Pool.{pooled-next}
 use Rattle.pool.proofs.collect.Statement.{statement}
 use Rattle.pool.proofs.collect.Tie as tie
 use Rattle.pool.proofs.scan.Reads as scan-reads

@@ -21,13 +21,14 @@ use Rattle.payload.specs.Payload as payload
 use Rattle.record.specs.declared.Record.{Record}
 use Rattle.record.specs.Record.{bytes, decoded, wellFormed, payloadField}
 use Rattle.record.proofs.Words.{payload-words}
-use Rattle.calls.specs.Records.{recordAt}
+use Rattle.calls.specs.Records.{recordAt, slotWellFormed, senderWellFormed}
 use Rattle.calls.proofs.Records.{place-fits}
 use Rattle.calls.proofs.RecordBounds.{loaded-part, record-at}
+use Rattle.protocol.proofs.ComputedTests.{each-next, each-fails}
 use Rattle.setpoint.specs.Setpoint.{setpointIn, valueIn}
-use Rattle.pool.specs.Pool.{deliveredSetpoint, deliveredSetpoints, latest, slotWellFormed, senderWellFormed}
+use Rattle.pool.specs.Pool.{deliveredSetpoint, deliveredSetpoints, latest}
 use Rattle.pool.specs.Inner.{foundIn}
-use Rattle.pool.proofs.Pool.{each-next, each-fails, slot-setpoint, latest-found, latest-stays}
+use Rattle.pool.proofs.Pool.{slot-setpoint, latest-found, latest-stays}
 use Rattle.pool.proofs.scan.Statement.{statement}
 use Rattle.pool.proofs.scan.Tie as tie
 use Rattle.config.proofs.Config.slot_of_day.Reads as slot-of-day-reads

@@ -13,8 +13,9 @@ use mir.Facts.{toZ-ofZ}
 use Rattle.refusal.specs.Outcome.{done}
 use Rattle.config.specs.declared.Config.{Config}
 use Rattle.config.specs.Config.{good, recordsSize}
+use Rattle.calls.specs.Records.{allWellFormed}
 use Rattle.middle.specs.Middle.{lowerMiddle}
-use Rattle.pool.specs.Pool.{pool, allWellFormed}
+use Rattle.pool.specs.Pool.{pool}
 use Rattle.pool.specs.declared.Collection.{Collection}
 use Rattle.pool.specs.declared.Collection.the-variants.{Pool, Malformed}
 use Rattle.pool.specs.Inner.{Collects}

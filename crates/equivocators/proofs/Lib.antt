@@ -1,0 +1,6 @@
+-- The laws of this crate.
+pub mod Entries
+pub mod Halves
+pub mod Slots
+pub mod Below
+pub mod Refusals

@@ -1,0 +1,4 @@
+-- What the contracts of this crate and of those above it cite, and what is claimed of it.
+pub mod Entries
+pub mod Equivocators
+pub mod Inner
