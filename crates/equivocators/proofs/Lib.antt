@@ -4,3 +4,5 @@ pub mod Halves
 pub mod Slots
 pub mod Below
 pub mod Refusals
+pub mod Named
+pub mod Computing

@@ -7,27 +7,22 @@ use mathlib.Core.Bool.{Bool, true, false, cond, true≢false}
 use mathlib.Core.List.{List}
 use Prim.Native.Nat.{ℕ, _+_, _*_, _<_}
 use native.Mathlib.Omega.{arith}
-use lib.Dec.{ltb, lit<}
+use lib.Dec.{ltb}
 use lib.IntN.{ℤ}
 use lib.ListN.{length}
 use borrow.Author.Tests.{ltb-true, ltb-false}
 use Rattle.refusal.specs.Outcome.{Outcome, refused, done, after}
 use Rattle.refusal.proofs.Reasons.{refused-not-done}
 use Rattle.config.specs.declared.Slot.{Slot}
-use Rattle.config.specs.Config.{withOwn, good, slots, slotOfDay, recordsSize}
-use Rattle.config.proofs.Laws.{in-range}
+use Rattle.config.specs.Config.{withOwn, good, slotOfDay}
 use Rattle.protocol.specs.Trace.{Trace}
 use Rattle.calls.proofs.NoEffect.{refused-showing-gives-nothing}
-use Rattle.calls.specs.Showing.{delivered}
-use Rattle.calls.proofs.Refusals.{delivered-malformed}
-use Rattle.calls.specs.Records.{slotWellFormed, senderWellFormed, allWellFormed}
-use Rattle.protocol.proofs.ComputedTests.{each-passes}
 use Rattle.system.specs.Demand3.{Call, System, configAt, correct, deliversIn, buffer, ever, called, Assumed}
 use Rattle.system.specs.Order.{Orderly}
 use Rattle.system.specs.Shown.{shownPlace, shownPayload}
 use Rattle.system.proofs.CommonConfig.{config-good}
-use Rattle.system.proofs.Simulation.{correct-below, assumed-orderly, order-holds}
-use Rattle.system.proofs.OrderlyRefusals.{never-malformed}
+use Rattle.system.proofs.Simulation.{correct-below, assumed-orderly}
+use Rattle.system.proofs.OrderlyRefusals.{stays-well-formed}
 use Rattle.system.proofs.Shown.{shown-answered, shown-agrees}
 use Rattle.setpoint.specs.Setpoint.{setpointIn}
 use Rattle.middle.specs.Middle.{lowerMiddle}
@@ -46,28 +41,7 @@ module _ (s : System) (list : Trace Call) (orderly : Orderly s list) (u : ℕ) (
   good-here : good (configAt s u) ≡ true
   good-here = config-good s u (orderly .configured) known
 
-  sized : length (buffer s list u) ≡ recordsSize (configAt s u)
-  unfolding slotOfDay
-  sized =
-      let slot = slotOfDay (s .shared) u 0 in
-      order-holds s slot (record { today = refl; inside = in-range (s .shared) slot known (lit< tt) }) (orderly .configured) (orderly .dated) list (orderly .ordered) u here .sized
-
-  -- a record that is not well-formed is refused by 21, which does not come
-  refused-21 : (sender seq : ℕ) → sender < configAt s u .n → seq < slots → slotWellFormed (configAt s u) (buffer s list u) sender seq ≡ false
-      → delivered (configAt s u) (slotOfDay (configAt s u) sender seq) (buffer s list u) ≡ refused 21
-  unfolding slotOfDay slotWellFormed
-  refused-21 sender seq below k e = delivered-malformed (configAt s u) (slotOfDay (configAt s u) sender seq) (buffer s list u) good-here below k sized e
-
-  formed : allWellFormed (configAt s u) (buffer s list u) ≡ true
-  unfolding allWellFormed senderWellFormed
-  formed = each-passes (configAt s u .n) _ (λ sender below. each-passes slots _ (λ seq k. go sender seq below k (slotWellFormed (configAt s u) (buffer s list u) sender seq) refl))
-    where
-      go : (sender seq : ℕ) → sender < configAt s u .n → seq < slots
-          → (m : Bool) → slotWellFormed (configAt s u) (buffer s list u) sender seq ≡ m → slotWellFormed (configAt s u) (buffer s list u) sender seq ≡ true
-      go sender seq below k true e = e
-      go sender seq below k false e = absurd (never-malformed s list orderly u known here .2 (slotOfDay (configAt s u) sender seq) (refused-21 sender seq below k e))
-
-  -- so the pool decides
+  -- all records are well-formed, and the buffer has its length, so the pool decides
   comes : setpointAt s list u ≡ comes-to (s .shared .t) (pool (configAt s u) (buffer s list u))
   unfolding comes-to configAt withOwn
   comes = go (ltb (length (pool (configAt s u) (buffer s list u))) (2 * s .shared .t + 1)) refl
@@ -75,11 +49,13 @@ module _ (s : System) (list : Trace Call) (orderly : Orderly s list) (u : ℕ) (
       go : (m : Bool) → ltb (length (pool (configAt s u) (buffer s list u))) (2 * s .shared .t + 1) ≡ m
           → setpointAt s list u ≡ cond m (refused 27) (done (lowerMiddle (pool (configAt s u) (buffer s list u))))
       go true e =
+          let stays = stays-well-formed s list orderly u known here in
           let few = ltb-true (length (pool (configAt s u) (buffer s list u))) (2 * s .shared .t + 1) e in
-          setpoint-few (configAt s u) (buffer s list u) good-here sized formed (omega arith)
+          setpoint-few (configAt s u) (buffer s list u) good-here (stays .0) (stays .1) (omega arith)
       go false e =
+          let stays = stays-well-formed s list orderly u known here in
           let enough = ltb-false (length (pool (configAt s u) (buffer s list u))) (2 * s .shared .t + 1) e in
-          setpoint-done (configAt s u) (buffer s list u) good-here sized formed (omega arith)
+          setpoint-done (configAt s u) (buffer s list u) good-here (stays .0) (stays .1) (omega arith)
 
 pub refused-by-too-few-alone : RefusedByTooFewAlone
 unfolding comes-to

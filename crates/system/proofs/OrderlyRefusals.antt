@@ -1,24 +1,26 @@
--- After a list of calls in order no call at a node that was called is refused by 21, and no bundle with genuine signatures by 23: `NeverMalformed` and `NeverOwnUnknown` of
--- specs/Order.antt. The bytes of each slot in range are those of a well-formed record, which holds what the node signed; 21 would show one that is not, and 23 a
+-- After a list of calls in order all records at a node that was called are well-formed, no call there is refused by 21, and no bundle with genuine signatures by 23:
+-- `StaysWellFormed`, `NeverMalformed` and `NeverOwnUnknown` of specs/Order.antt. The bytes of each slot in range are those of a well-formed record, which holds what the node signed; 21 would show one that is not, and 23 a
 -- payload signed and not held.
 -- Assumes nothing.
 use mathlib.Core.Path.{_≡_, refl, sym, ap, _∙_, subst}
 use mathlib.Core.Bool.{true, false, true≢false}
 use mathlib.Core.List.{List}
 use Prim.Native.Nat.{ℕ, _<_}
+use lib.Dec.{lit<}
 use Rattle.octets.proofs.Same.{same-self}
 use Rattle.refusal.specs.Outcome.{refused}
 use Rattle.config.specs.declared.Config.{Config}
 use Rattle.config.specs.declared.Slot.{Slot}
-use Rattle.config.specs.Config.{withOwn, good, inRange, slotOfDay}
-use Rattle.config.proofs.Laws.{good-says}
+use Rattle.config.specs.Config.{withOwn, good, slots, inRange, slotOfDay}
+use Rattle.config.proofs.Laws.{good-says, in-range}
 use Rattle.bundle.specs.Bundle.{payloadPart, slotOf}
 use Rattle.protocol.specs.Update.{Record, Empty, Held, Delivered, isDelivered, holds}
 use Rattle.protocol.specs.Trace.{Trace}
 use Rattle.record.specs.Record.{wellFormed}
 use Rattle.record.proofs.Encoding.{encoding-well-formed}
 use Rattle.protocol.proofs.WellFormed.{WellFormed}
-use Rattle.calls.specs.Records.{recordAt, ownSlot}
+use Rattle.protocol.proofs.ComputedTests.{each-passes}
+use Rattle.calls.specs.Records.{recordAt, ownSlot, slotWellFormed, senderWellFormed, allWellFormed}
 use Rattle.calls.specs.Algorithm.{recordOf}
 use Rattle.calls.proofs.RecordBounds.{own-range}
 use Rattle.calls.proofs.FreeNumber.{refused-by-malformed}
@@ -27,7 +29,7 @@ use Rattle.calls.proofs.ReceiveFacts.{read-says, receive-malformed-says, receiv
 use Rattle.calls.proofs.Refusals.{delivered-malformed-says}
 use Rattle.system.specs.Demand3.{Call, System, configAt, signs, buffer, ever, called}
 use Rattle.system.specs.Differences.{HoldsSigned}
-use Rattle.system.specs.Order.{Orderly, NeverMalformed, NeverOwnUnknown}
+use Rattle.system.specs.Order.{Orderly, StaysWellFormed, NeverMalformed, NeverOwnUnknown}
 use Rattle.system.proofs.CommonConfig.{config-good, config-quorum, InRange, range-from}
 use Rattle.system.proofs.Simulation.{correct-below, slotRecord, order-holds}
 use Rattle.system.proofs.Differences.{holds-signed}
@@ -61,6 +63,19 @@ module _ (s : System) (list : Trace Call) (orderly : Orderly s list) (u : ℕ) (
       (sym (formed today (record { today = refl; inside = range }))
       ∙ ap (wellFormed (configAt s u) (slot .sender)) (same-place (configAt s u) today slot refl refl (buffer s list u))
       ∙ e)
+
+-- the buffer, and all records in it
+pub stays-well-formed : StaysWellFormed
+unfolding allWellFormed senderWellFormed slotWellFormed slotOfDay configAt withOwn
+stays-well-formed s list orderly u known here =
+    let own = slotOfDay (s .shared) u 0 in (
+      order-holds s own (record { today = refl; inside = in-range (s .shared) own known (lit< tt) }) (orderly .configured) (orderly .dated) list (orderly .ordered) u here .sized,
+      each-passes (s .shared .n) _
+          (λ sender below.
+          each-passes slots _
+          (λ seq k.
+          formed s list orderly u known here (slotOfDay (s .shared) sender seq) (record { today = refl; inside = in-range (s .shared) (slotOfDay (s .shared) sender seq) below k }))),
+    )
 
 pub never-malformed : NeverMalformed
 never-malformed s list orderly u known here = (

@@ -11,6 +11,7 @@ use Rattle.refusal.specs.Outcome.{refused}
 use Rattle.config.specs.declared.Slot.{Slot}
 use Rattle.config.specs.Config.{good, recordsSize}
 use Rattle.protocol.specs.Trace.{Trace, start, _then_calls_}
+use Rattle.calls.specs.Records.{allWellFormed}
 use Rattle.calls.specs.Broadcast.{broadcast}
 use Rattle.calls.specs.Receive.{receive}
 use Rattle.calls.specs.Showing.{delivered}
@@ -40,8 +41,14 @@ CountsInOrder =
     (s : System) (list : Trace Call) → Orderly s list → (u : ℕ) (slot : Slot)
     → (times s (deliversIn s slot) list u ≤ 1) × (times s (announcesIn s slot) list u ≤ 1) × (times s (sendsIn s slot) list u ≤ 2)
 
+-- R4.6: after such a list the buffer of a node that was called has its length, and all records in it are well-formed.
+abbrev pub StaysWellFormed : Type 0
+StaysWellFormed =
+    (s : System) (list : Trace Call) → Orderly s list → (u : ℕ) → u < s .shared .n → called s list u ≡ true
+    → (length (buffer s list u) ≡ recordsSize (configAt s u)) × (allWellFormed (configAt s u) (buffer s list u) ≡ true)
+
 -- R4.6: after such a list broadcasting, receiving and showing at a node that was called are not refused by 21, since all records there are well-formed. For
--- pooling see pool_trace's specs/Announced.antt.
+-- pooling see pool_trace's specs/Announced.antt, and for two nodes' records equivocators_trace's specs/Correct.antt.
 abbrev pub NeverMalformed : Type 0
 NeverMalformed =
     (s : System) (list : Trace Call) → Orderly s list → (u : ℕ) → u < s .shared .n → called s list u ≡ true
