@@ -5,13 +5,13 @@ use mathlib.Core.Bool.{Bool, true, false, true≢false}
 use mathlib.Core.List.{List}
 use Prim.Native.Nat.{ℕ, _+_}
 use lib.Dec.{eqb}
-use lib.ListN.{length, length-replicate}
+use lib.ListN.{length, replicate, length-replicate}
 use borrow.Author.Tests.{eqb-true, eqb-false}
 use Rattle.refusal.specs.Outcome.{Outcome, refused, done, unless}
 use Rattle.refusal.proofs.Reasons.{refused-not-done}
 use Rattle.config.specs.declared.Config.{Config}
 use Rattle.config.specs.Config.{good, quorum, place, recordSize, recordsSize, inRange, slotOfDay}
-use Rattle.config.proofs.Laws.{good-says, range-says}
+use Rattle.config.proofs.Laws.{good-says, range-says, in-range}
 use Rattle.bundle.specs.declared.Header.{Header}
 use Rattle.bundle.specs.Bundle.{read, slotOf}
 use Rattle.protocol.specs.Update.{Record, Empty, Held, Delivered, payloadOf, isEmpty, isDelivered, Update, announcedBy, updateReasons, update}
@@ -20,13 +20,13 @@ use Rattle.protocol.proofs.UpdateCases.{update-delivers, update-payload, delive
 use Rattle.record.specs.Record.{encoding, decoded, wellFormed, payloadField, payloadAt}
 use Rattle.record.proofs.Encoding.{decoded-encoding, encoding-length, empty-encoding, encoding-well-formed, encoding-fields}
 use Rattle.config.specs.declared.Slot.{Slot}
-use Rattle.calls.specs.Records.{recordAt, stored, ownSlot}
+use Rattle.calls.specs.Records.{recordAt, stored, ownSlot, slotWellFormed}
 use Rattle.calls.specs.Open.{openRecords}
 use Rattle.calls.specs.Broadcast.{broadcast, broadcastRecords}
 use Rattle.calls.specs.Receive.{receive, receiveRecords}
 use Rattle.calls.specs.Showing.{delivered, deliveredPart}
 use Rattle.calls.specs.Preserved.{StaysWellFormed, SameShown, CallsKeepWellFormed, DeliveredIsShown, ShownStays}
-use Rattle.calls.proofs.Records.{stored-length, stored-there, stored-elsewhere, zeros-at, same-place}
+use Rattle.calls.proofs.Records.{stored-length, stored-there, stored-elsewhere, zeros-at, same-place, all-well-formed}
 use Rattle.calls.proofs.Refusals.{opened-done, broadcast-effect, broadcast-no-effect, receive-left, receive-no-effect, receive-unread, receive-updated, delivered-done, delivered-says, delivered-record}
 use Rattle.calls.proofs.LowestFree.{broadcast-done}
 use Rattle.calls.proofs.ReceiveFacts.{read-says, receive-done}
@@ -156,11 +156,14 @@ receive-length config bundle records out = left-length config records _ (receive
 -- ---- the claims
 
 pub calls-keep-well-formed : CallsKeepWellFormed
-unfolding openRecords
+unfolding openRecords slotWellFormed slotOfDay
 calls-keep-well-formed config records g l = (
   (
-    λ slot range. rw (opened-done config records g l, l)
-        (ap (wellFormed config (slot .sender)) (zeros-at config slot g range ∙ empty-encoding) ∙ encoding-well-formed config (slot .sender) (good-says config g .most) Empty tt),
+    rw (opened-done config records g l, l)
+        (all-well-formed config (replicate (recordsSize config) 0)
+        (λ sender seq s k.
+        let slot = slotOfDay config sender seq in
+        ap (wellFormed config sender) (zeros-at config slot g (in-range config slot s k) ∙ empty-encoding) ∙ encoding-well-formed config sender (good-says config g .most) Empty tt)),
     rw (opened-done config records g l) (length-replicate {A = ℕ} (length records) 0),
   ),
   λ payload out. (left-well-formed config records _ (broadcast-left config payload records out), broadcast-length config payload records out),

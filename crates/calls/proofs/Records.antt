@@ -17,7 +17,8 @@ use Rattle.config.specs.declared.Config.{Config}
 use Rattle.config.specs.Config.{good, slots, inRange, slotPlace, place, recordSize, recordsSize}
 use Rattle.config.specs.declared.Slot.{Slot}
 use Rattle.config.proofs.Laws.{place-is, place-room, range-says}
-use Rattle.calls.specs.Records.{recordAt, replaced, stored}
+use Rattle.protocol.proofs.ComputedTests.{each-passes}
+use Rattle.calls.specs.Records.{recordAt, replaced, stored, slotWellFormed, senderWellFormed, allWellFormed}
 
 -- a part of a list with other bytes at another place
 module _ (xs bytes : List ℕ) (at k : ℕ) (long : length bytes ≡ k) (room : at + k ≤ length xs) where
@@ -156,3 +157,9 @@ zeros-at config slot g range =
     ∙ getD-drop at zeros i 0
     ∙ getD-replicate (recordsSize config) (at + i) 0 0 (omega arith)
     ∙ sym (getD-replicate recordSize i 0 0 (omega arith)))
+
+-- all records are well-formed where each is
+pub all-well-formed : (config : Config) (records : List ℕ) → ((sender seq : ℕ) → sender < config .n → seq < slots → slotWellFormed config records sender seq ≡ true)
+    → allWellFormed config records ≡ true
+unfolding allWellFormed senderWellFormed
+all-well-formed config records one = each-passes (config .n) _ (λ sender s. each-passes slots _ (λ seq k. one sender seq s k))

@@ -13,15 +13,11 @@ use Rattle.bundle.specs.declared.Header.{Header}
 use Rattle.bundle.specs.Bundle.{read, payloadPart, slotOf}
 use Rattle.protocol.specs.Update.{delivers, Update}
 use Rattle.record.specs.Record.{wellFormed, payloadAt}
-use Rattle.calls.specs.Records.{recordAt}
+use Rattle.calls.specs.Records.{recordAt, allWellFormed}
 use Rattle.calls.specs.Open.{openRecords}
 use Rattle.calls.specs.Broadcast.{broadcastRecords}
 use Rattle.calls.specs.Receive.{receive, receiveRecords}
 use Rattle.calls.specs.Showing.{delivered, deliveredPart}
-
--- the record of every slot is well-formed
-abbrev pub AllWellFormed : Config → (records : List ℕ) → Type 0
-AllWellFormed config records = (slot : Slot) → inRange config slot ≡ true → wellFormed config (slot .sender) (recordAt config slot records) ≡ true
 
 -- each record that is well-formed in one buffer is so in another
 abbrev pub StaysWellFormed : Config → (before after : List ℕ) → Type 0
@@ -39,7 +35,7 @@ SameShown config slot first second =
 abbrev pub CallsKeepWellFormed : Type 0
 CallsKeepWellFormed =
     (config : Config) (records : List ℕ) → good config ≡ true → length records ≡ recordsSize config
-    → (AllWellFormed config (openRecords config records) × (length (openRecords config records) ≡ length records))
+    → ((allWellFormed config (openRecords config records) ≡ true) × (length (openRecords config records) ≡ length records))
     × ((payload out : List ℕ)
     → StaysWellFormed config records (broadcastRecords config payload records out) × (length (broadcastRecords config payload records out) ≡ length records))
     × ((bundle out : List ℕ)

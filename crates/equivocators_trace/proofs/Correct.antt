@@ -24,7 +24,7 @@ use Rattle.system.specs.Notes as notes
 use Rattle.system.specs.Notes.{LawfulList}
 use Rattle.system.proofs.CommonConfig.{config-good}
 use Rattle.system.proofs.Simulation.{correct-below, assumed-orderly}
-use Rattle.system.proofs.OrderlyRefusals.{stays-well-formed}
+use Rattle.system.proofs.OrderlyRefusals.{records-well-formed}
 use Rattle.system.proofs.Notes.{assumed-lawful, signs-one}
 use Rattle.equivocators.specs.Equivocators.{equivocates}
 use Rattle.equivocators.specs.Named.{Stands, Equivocated}
@@ -35,8 +35,8 @@ use Rattle.equivocators_trace.specs.Correct.{equivocatorsAt, NeverRefuse
 pub never-refused : NeverRefused
 unfolding configAt withOwn
 never-refused s list orderly u w known-u known-w differ called-u called-w =
-    let here = stays-well-formed s list orderly u known-u called-u in
-    let there = stays-well-formed s list orderly w known-w called-w in (
+    let here = records-well-formed s list orderly u known-u called-u in
+    let there = records-well-formed s list orderly w known-w called-w in (
       wordOf (equivocates (configAt s u) w (buffer s list u) (buffer s list w)) 64,
       names (configAt s u) w (buffer s list u) (buffer s list w) (config-good s u (orderly .configured) known-u) (config-good s w (orderly .configured) known-w) (here .0) (here .1)
           (there .0) (there .1) differ,

@@ -22,7 +22,7 @@ use Rattle.system.specs.Order.{Orderly}
 use Rattle.system.specs.Shown.{shownPlace, shownPayload}
 use Rattle.system.proofs.CommonConfig.{config-good}
 use Rattle.system.proofs.Simulation.{correct-below, assumed-orderly}
-use Rattle.system.proofs.OrderlyRefusals.{stays-well-formed}
+use Rattle.system.proofs.OrderlyRefusals.{records-well-formed}
 use Rattle.system.proofs.Shown.{shown-answered, shown-agrees}
 use Rattle.setpoint.specs.Setpoint.{setpointIn}
 use Rattle.middle.specs.Middle.{lowerMiddle}
@@ -49,11 +49,11 @@ module _ (s : System) (list : Trace Call) (orderly : Orderly s list) (u : ℕ) (
       go : (m : Bool) → ltb (length (pool (configAt s u) (buffer s list u))) (2 * s .shared .t + 1) ≡ m
           → setpointAt s list u ≡ cond m (refused 27) (done (lowerMiddle (pool (configAt s u) (buffer s list u))))
       go true e =
-          let stays = stays-well-formed s list orderly u known here in
+          let stays = records-well-formed s list orderly u known here in
           let few = ltb-true (length (pool (configAt s u) (buffer s list u))) (2 * s .shared .t + 1) e in
           setpoint-few (configAt s u) (buffer s list u) good-here (stays .0) (stays .1) (omega arith)
       go false e =
-          let stays = stays-well-formed s list orderly u known here in
+          let stays = records-well-formed s list orderly u known here in
           let enough = ltb-false (length (pool (configAt s u) (buffer s list u))) (2 * s .shared .t + 1) e in
           setpoint-done (configAt s u) (buffer s list u) good-here (stays .0) (stays .1) (omega arith)
 

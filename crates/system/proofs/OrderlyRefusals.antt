@@ -1,5 +1,5 @@
 -- After a list of calls in order all records at a node that was called are well-formed, no call there is refused by 21, and no bundle with genuine signatures by 23:
--- `StaysWellFormed`, `NeverMalformed` and `NeverOwnUnknown` of specs/Order.antt. The bytes of each slot in range are those of a well-formed record, which holds what the node signed; 21 would show one that is not, and 23 a
+-- `RecordsWellFormed`, `NeverMalformed` and `NeverOwnUnknown` of specs/Order.antt. The bytes of each slot in range are those of a well-formed record, which holds what the node signed; 21 would show one that is not, and 23 a
 -- payload signed and not held.
 -- Assumes nothing.
 use mathlib.Core.Path.{_≡_, refl, sym, ap, _∙_, subst}
@@ -11,7 +11,7 @@ use Rattle.octets.proofs.Same.{same-self}
 use Rattle.refusal.specs.Outcome.{refused}
 use Rattle.config.specs.declared.Config.{Config}
 use Rattle.config.specs.declared.Slot.{Slot}
-use Rattle.config.specs.Config.{withOwn, good, slots, inRange, slotOfDay}
+use Rattle.config.specs.Config.{withOwn, good, inRange, slotOfDay}
 use Rattle.config.proofs.Laws.{good-says, in-range}
 use Rattle.bundle.specs.Bundle.{payloadPart, slotOf}
 use Rattle.protocol.specs.Update.{Record, Empty, Held, Delivered, isDelivered, holds}
@@ -19,17 +19,16 @@ use Rattle.protocol.specs.Trace.{Trace}
 use Rattle.record.specs.Record.{wellFormed}
 use Rattle.record.proofs.Encoding.{encoding-well-formed}
 use Rattle.protocol.proofs.WellFormed.{WellFormed}
-use Rattle.protocol.proofs.ComputedTests.{each-passes}
-use Rattle.calls.specs.Records.{recordAt, ownSlot, slotWellFormed, senderWellFormed, allWellFormed}
+use Rattle.calls.specs.Records.{recordAt, ownSlot, slotWellFormed}
 use Rattle.calls.specs.Algorithm.{recordOf}
 use Rattle.calls.proofs.RecordBounds.{own-range}
 use Rattle.calls.proofs.FreeNumber.{refused-by-malformed}
-use Rattle.calls.proofs.Records.{same-place}
+use Rattle.calls.proofs.Records.{same-place, all-well-formed}
 use Rattle.calls.proofs.ReceiveFacts.{read-says, receive-malformed-says, receive-unknown-says}
 use Rattle.calls.proofs.Refusals.{delivered-malformed-says}
 use Rattle.system.specs.Demand3.{Call, System, configAt, signs, buffer, ever, called}
 use Rattle.system.specs.Differences.{HoldsSigned}
-use Rattle.system.specs.Order.{Orderly, StaysWellFormed, NeverMalformed, NeverOwnUnknown}
+use Rattle.system.specs.Order.{Orderly, RecordsWellFormed, NeverMalformed, NeverOwnUnknown}
 use Rattle.system.proofs.CommonConfig.{config-good, config-quorum, InRange, range-from}
 use Rattle.system.proofs.Simulation.{correct-below, slotRecord, order-holds}
 use Rattle.system.proofs.Differences.{holds-signed}
@@ -65,16 +64,14 @@ module _ (s : System) (list : Trace Call) (orderly : Orderly s list) (u : ℕ) (
       ∙ e)
 
 -- the buffer, and all records in it
-pub stays-well-formed : StaysWellFormed
-unfolding allWellFormed senderWellFormed slotWellFormed slotOfDay configAt withOwn
-stays-well-formed s list orderly u known here =
+pub records-well-formed : RecordsWellFormed
+unfolding slotWellFormed slotOfDay configAt withOwn
+records-well-formed s list orderly u known here =
     let own = slotOfDay (s .shared) u 0 in (
       order-holds s own (record { today = refl; inside = in-range (s .shared) own known (lit< tt) }) (orderly .configured) (orderly .dated) list (orderly .ordered) u here .sized,
-      each-passes (s .shared .n) _
-          (λ sender below.
-          each-passes slots _
-          (λ seq k.
-          formed s list orderly u known here (slotOfDay (s .shared) sender seq) (record { today = refl; inside = in-range (s .shared) (slotOfDay (s .shared) sender seq) below k }))),
+      all-well-formed (configAt s u) (buffer s list u)
+          (λ sender seq below k.
+          formed s list orderly u known here (slotOfDay (s .shared) sender seq) (record { today = refl; inside = in-range (s .shared) (slotOfDay (s .shared) sender seq) below k })),
     )
 
 pub never-malformed : NeverMalformed

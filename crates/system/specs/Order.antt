@@ -42,8 +42,8 @@ CountsInOrder =
     → (times s (deliversIn s slot) list u ≤ 1) × (times s (announcesIn s slot) list u ≤ 1) × (times s (sendsIn s slot) list u ≤ 2)
 
 -- R4.6: after such a list the buffer of a node that was called has its length, and all records in it are well-formed.
-abbrev pub StaysWellFormed : Type 0
-StaysWellFormed =
+abbrev pub RecordsWellFormed : Type 0
+RecordsWellFormed =
     (s : System) (list : Trace Call) → Orderly s list → (u : ℕ) → u < s .shared .n → called s list u ≡ true
     → (length (buffer s list u) ≡ recordsSize (configAt s u)) × (allWellFormed (configAt s u) (buffer s list u) ≡ true)
 
