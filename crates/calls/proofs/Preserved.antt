@@ -20,7 +20,8 @@ use Rattle.protocol.proofs.UpdateCases.{update-delivers, update-payload, delive
 use Rattle.record.specs.Record.{encoding, decoded, wellFormed, payloadField, payloadAt}
 use Rattle.record.proofs.Encoding.{decoded-encoding, encoding-length, empty-encoding, encoding-well-formed, encoding-fields}
 use Rattle.config.specs.declared.Slot.{Slot}
-use Rattle.calls.specs.Records.{recordAt, stored, ownSlot, slotWellFormed}
+use Rattle.calls.specs.Records.{recordAt, stored, ownSlot}
+use Rattle.calls.specs.WellFormed.{slotWellFormed}
 use Rattle.calls.specs.Open.{openRecords}
 use Rattle.calls.specs.Broadcast.{broadcast, broadcastRecords}
 use Rattle.calls.specs.Receive.{receive, receiveRecords}

@@ -18,7 +18,8 @@ use Rattle.config.specs.Config.{good, slots, inRange, slotPlace, place, recordS
 use Rattle.config.specs.declared.Slot.{Slot}
 use Rattle.config.proofs.Laws.{place-is, place-room, range-says}
 use Rattle.protocol.proofs.ComputedTests.{each-passes}
-use Rattle.calls.specs.Records.{recordAt, replaced, stored, slotWellFormed, senderWellFormed, allWellFormed}
+use Rattle.calls.specs.Records.{recordAt, replaced, stored}
+use Rattle.calls.specs.WellFormed.{slotWellFormed, senderWellFormed, allWellFormed}
 
 -- a part of a list with other bytes at another place
 module _ (xs bytes : List ℕ) (at k : ℕ) (long : length bytes ≡ k) (room : at + k ≤ length xs) where

@@ -1,5 +1,6 @@
 -- What the contracts of the calls cite, and what is claimed of them.
 pub mod Records
+pub mod WellFormed
 pub mod Open
 pub mod Broadcast
 pub mod FreeNumber

@@ -13,7 +13,8 @@ use Rattle.bundle.specs.declared.Header.{Header}
 use Rattle.bundle.specs.Bundle.{read, payloadPart, slotOf}
 use Rattle.protocol.specs.Update.{delivers, Update}
 use Rattle.record.specs.Record.{wellFormed, payloadAt}
-use Rattle.calls.specs.Records.{recordAt, allWellFormed}
+use Rattle.calls.specs.Records.{recordAt}
+use Rattle.calls.specs.WellFormed.{allWellFormed}
 use Rattle.calls.specs.Open.{openRecords}
 use Rattle.calls.specs.Broadcast.{broadcastRecords}
 use Rattle.calls.specs.Receive.{receive, receiveRecords}

@@ -8,9 +8,7 @@ use lib.ListN.{length, take, drop}
 use Rattle.octets.specs.Octets.{part}
 use Rattle.config.specs.declared.Config.{Config}
 use Rattle.config.specs.declared.Slot.{Slot}
-use Rattle.config.specs.Config.{slots, slotOfDay, place, recordSize, recordsSize}
-use Rattle.protocol.specs.Trace.{each}
-use Rattle.record.specs.Record.{wellFormed}
+use Rattle.config.specs.Config.{slotOfDay, place, recordSize, recordsSize}
 
 -- a slot of our own
 abbrev pub ownSlot : Config → (seq : ℕ) → Slot
@@ -31,13 +29,3 @@ stored config slot bytes records = replaced (place config slot) bytes records
 -- R5.5: 20 applies
 abbrev pub wrongSize : Config → List ℕ → Bool
 wrongSize config records = not (eqb (length records) (recordsSize config))
-
--- where 21 looks at every record of the buffer: those of a slot, of a sender, and all are well-formed
-unfoldable pub slotWellFormed : Config → (records : List ℕ) (sender seq : ℕ) → Bool
-slotWellFormed config records sender seq = wellFormed config sender (recordAt config (slotOfDay config sender seq) records)
-
-unfoldable pub senderWellFormed : Config → (records : List ℕ) (sender : ℕ) → Bool
-senderWellFormed config records sender = each (slotWellFormed config records sender) slots
-
-unfoldable pub allWellFormed : Config → (records : List ℕ) → Bool
-allWellFormed config records = each (senderWellFormed config records) (config .n)

@@ -6,7 +6,8 @@ use mathlib.Core.List.{List, [], _∷_, _++_}
 use Prim.Native.Nat.{ℕ, zero, suc, _<_, _^_}
 use native.Mathlib.Nat.{le-of-eq}
 use Rattle.octets.specs.Octets.{same}
-use Rattle.signers.specs.Signers.{member, union, common, wordOf}
+use Rattle.signers.specs.Signers.{member, union, common}
+use Rattle.signers.specs.Words.{wordOf}
 use Rattle.signers.proofs.Members.{nobody, member-union, word-same}
 use Rattle.refusal.specs.Outcome.{unless}
 use Rattle.config.specs.declared.Config.{Config}

@@ -11,7 +11,8 @@ use lib.ListN.{length}
 use borrow.Author.Tests.{eqb-true, not-true, not-false}
 use Rattle.octets.specs.Octets.{same}
 use Rattle.octets.proofs.Same.{same-says, same-self}
-use Rattle.signers.specs.Signers.{member, within, wordOf}
+use Rattle.signers.specs.Signers.{member, within}
+use Rattle.signers.specs.Words.{wordOf}
 use Rattle.signers.proofs.Members.{nobody, within-lt, within-says, says-within, word-within, member-word}
 use Rattle.refusal.specs.Outcome.{done}
 use Rattle.refusal.proofs.Reasons.{done-clear}
@@ -25,7 +26,8 @@ use Rattle.protocol.proofs.WellFormed.{NoteWellFormed, WellFormed, well-formed-
 use Rattle.protocol.proofs.ComputedTests.{each-says}
 use Rattle.record.specs.Record.{decoded, wellFormed}
 use Rattle.record.proofs.Encoding.{decoded-well-formed}
-use Rattle.calls.specs.Records.{recordAt, slotWellFormed, senderWellFormed, allWellFormed}
+use Rattle.calls.specs.Records.{recordAt}
+use Rattle.calls.specs.WellFormed.{slotWellFormed, senderWellFormed, allWellFormed}
 use Rattle.calls.specs.Algorithm.{recordOf}
 use Rattle.calls.proofs.Records.{recordAt-length}
 use Rattle.equivocators.specs.Entries.{Entry, notedEntry, entries, signedBoth, signedTwo}

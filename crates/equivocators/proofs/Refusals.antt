@@ -7,13 +7,13 @@ use Prim.Native.Nat.{ℕ}
 use lib.Dec.{eqb}
 use lib.ListN.{length}
 use borrow.Author.Tests.{eq-eqb, ne-eqb}
-use Rattle.signers.specs.Signers.{wordOf}
+use Rattle.signers.specs.Words.{wordOf}
 use Rattle.refusal.specs.Outcome.{refused, done}
 use Rattle.refusal.proofs.Reasons.{passed, failed, pass, stop, clear-done}
 use Rattle.config.specs.declared.Config.{Config}
 use Rattle.config.specs.Config.{good, slots, withOwn, recordsSize}
 use Rattle.protocol.specs.Trace.{each}
-use Rattle.calls.specs.Records.{slotWellFormed, senderWellFormed, allWellFormed}
+use Rattle.calls.specs.WellFormed.{slotWellFormed, senderWellFormed, allWellFormed}
 use Rattle.equivocators.specs.Equivocators.{equivocates, equivocatorsReasons, equivocators}
 use Rattle.equivocators.specs.Inner.{slotFormed, senderFormed, allFormed}
 use Rattle.equivocators.proofs.Below.{each-both}

@@ -15,7 +15,8 @@ use Rattle.protocol.specs.Update as protocol
 use Rattle.record.specs.declared.Record.{Record}
 use Rattle.record.specs.Record.{decoded, wellFormed, bytes}
 use Rattle.record.proofs.Words.{Fits}
-use Rattle.calls.specs.Records.{recordAt, slotWellFormed}
+use Rattle.calls.specs.Records.{recordAt}
+use Rattle.calls.specs.WellFormed.{slotWellFormed}
 use Rattle.calls.proofs.Records.{place-fits}
 use Rattle.calls.proofs.RecordBounds.{record-at}
 use Rattle.equivocators.specs.Entries.{entries, signedTwo}

@@ -5,12 +5,13 @@ use mathlib.Core.List.{List, [], _∷_, _++_}
 use Prim.Native.Nat.{ℕ, zero, suc}
 use lib.Dec.{eqb}
 use Rattle.signers.specs.Sets.{NodeSet}
-use Rattle.signers.specs.Signers.{wordOf}
+use Rattle.signers.specs.Words.{wordOf}
 use Rattle.refusal.specs.Refusal.{numberOf}
 use Rattle.refusal.specs.Outcome.{Outcome, refused, done, Reason, _if_, unless}
 use Rattle.config.specs.declared.Config.{Config}
 use Rattle.config.specs.Config.{good, slots, slotOfDay, withOwn}
-use Rattle.calls.specs.Records.{wrongSize, allWellFormed}
+use Rattle.calls.specs.Records.{wrongSize}
+use Rattle.calls.specs.WellFormed.{allWellFormed}
 use Rattle.calls.specs.Algorithm.{recordOf}
 use Rattle.equivocators.specs.Entries.{Entry, entries, signedTwo}
 use Rattle.equivocators.specs.declared.Naming.{Naming}

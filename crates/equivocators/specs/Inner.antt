@@ -14,7 +14,7 @@ use Rattle.config.specs.declared.Config.{Config}
 use Rattle.config.specs.Config.{slots, withOwn}
 use Rattle.protocol.specs.Trace.{each}
 use Rattle.record.specs.declared.Record.{Record}
-use Rattle.calls.specs.Records.{slotWellFormed}
+use Rattle.calls.specs.WellFormed.{slotWellFormed}
 use Rattle.equivocators.specs.Entries.{Entry, signedBoth, signedTwo}
 use Rattle.equivocators.specs.Equivocators.{someBelow, slotEntries, equivocates}
 use Rattle.equivocators.specs.declared.Comparison.{Comparison}

@@ -11,7 +11,8 @@ use native.Mathlib.Omega.{arith}
 use lib.Dec.{ltb}
 use borrow.Author.Tests.{lt-ltb}
 use Rattle.signers.specs.Sets.{count}
-use Rattle.signers.specs.Signers.{member, within, size, wordOf}
+use Rattle.signers.specs.Signers.{member, within, size}
+use Rattle.signers.specs.Words.{wordOf}
 use Rattle.signers.proofs.Counting.{count-mono}
 use Rattle.signers.proofs.Members.{within-lt, within-says, size-count}
 use Rattle.refusal.specs.Outcome.{done}

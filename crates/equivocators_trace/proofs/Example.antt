@@ -6,7 +6,7 @@ use lib.Bits.{bitAnd, bitOr}
 use lib.Dec.{lit<}
 use Rattle.protocol.specs.Trace as trace
 use Rattle.protocol.specs.Trace.{each}
-use Rattle.calls.specs.Records.{slotWellFormed, senderWellFormed, allWellFormed}
+use Rattle.calls.specs.WellFormed.{slotWellFormed, senderWellFormed, allWellFormed}
 use Rattle.refusal.specs.Outcome.{done}
 use Rattle.system.specs.Demand3.{configAt, buffer, inSlot, correct, opens, sends, sendsIn, signs}
 use Rattle.system.specs.Example.{sixNodes, six, first, second, third, firstSlot, gets, twoPayloads, faultySlot, correctSlot, opened, list}

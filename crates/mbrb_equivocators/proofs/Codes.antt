@@ -5,7 +5,7 @@ use mathlib.Core.List.{List}
 use Prim.Native.Nat.{ℕ}
 use Rattle.refusal.specs.Outcome.{Outcome, refused, done}
 use Rattle.refusal.proofs.Reasons.{Comes, unless-comes}
-use Rattle.signers.specs.Signers.{wordOf}
+use Rattle.signers.specs.Words.{wordOf}
 use Rattle.config.specs.declared.Config.{Config}
 use Rattle.mbrb.specs.Code.{listed}
 use Rattle.equivocators.specs.Equivocators.{equivocates, equivocatorsReasons, equivocators}

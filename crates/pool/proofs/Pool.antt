@@ -22,7 +22,8 @@ use Rattle.protocol.specs.Trace.{each}
 use Rattle.protocol.specs.Update.{isDelivered}
 use Rattle.protocol.proofs.ComputedTests.{each-says}
 use Rattle.record.specs.Record.{decoded, payloadAt, payloadField}
-use Rattle.calls.specs.Records.{recordAt, slotWellFormed, allWellFormed}
+use Rattle.calls.specs.Records.{recordAt}
+use Rattle.calls.specs.WellFormed.{slotWellFormed, allWellFormed}
 use Rattle.calls.specs.Showing.{deliveredPart}
 use Rattle.calls.proofs.Refusals.{delivered-not, delivered-done}
 use Rattle.setpoint.specs.Setpoint.{setpointIn, isSetpoint, hundredths}

@@ -13,7 +13,7 @@ use Rattle.signers.specs.Sets.{NodeSet, count, both}
 use Rattle.refusal.specs.Outcome.{done}
 use Rattle.config.specs.declared.Config.{Config}
 use Rattle.config.specs.Config.{good, recordsSize}
-use Rattle.calls.specs.Records.{allWellFormed}
+use Rattle.calls.specs.WellFormed.{allWellFormed}
 use Rattle.middle.specs.Middle.{lowerMiddle}
 use Rattle.pool.specs.Pool.{latest, pool, setpoint}
 

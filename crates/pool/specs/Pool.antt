@@ -10,7 +10,8 @@ use Rattle.refusal.specs.Refusal.{numberOf}
 use Rattle.refusal.specs.Outcome.{Outcome, refused, done, Reason, _if_, unless}
 use Rattle.config.specs.declared.Config.{Config}
 use Rattle.config.specs.Config.{good, slots, slotOfDay}
-use Rattle.calls.specs.Records.{wrongSize, allWellFormed}
+use Rattle.calls.specs.Records.{wrongSize}
+use Rattle.calls.specs.WellFormed.{allWellFormed}
 use Rattle.calls.specs.Showing.{deliveredPart}
 use Rattle.setpoint.specs.Setpoint.{setpointIn}
 use Rattle.middle.specs.Middle.{lowerMiddle}

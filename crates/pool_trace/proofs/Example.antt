@@ -16,7 +16,7 @@ use Rattle.config.specs.declared.Slot.{Slot}
 use Rattle.protocol.specs.Trace as trace
 use Rattle.protocol.specs.Trace.{Trace, start, _then_calls_, each}
 use Rattle.calls.specs.Showing.{deliveredReasons, delivered, deliveredPart}
-use Rattle.calls.specs.Records.{slotWellFormed, senderWellFormed, allWellFormed}
+use Rattle.calls.specs.WellFormed.{slotWellFormed, senderWellFormed, allWellFormed}
 use Rattle.system.specs.Demand3.{Call, Open, Broadcast, Receive, System, inSlot, correct, opens, announcesIn, announces, sends, sendsIn, signs, buffer, ever, Assumed}
 use Rattle.system.proofs.Computing.{calls-compute}
 use Rattle.system.proofs.ComputedTests.{given-before, unforged-now, unforged-test, lawful-test, lawful-says}

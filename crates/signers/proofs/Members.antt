@@ -14,7 +14,8 @@ use lib.Count.{ones-step, ones-le, leading-top}
 use lib.Dec.{ltb, leb, eqb, leb·suc-suc, eqb·suc-suc, eqb·zero-suc, eqb·suc-zero, lit<}
 use lib.Pow.{pow-pos, pow-mono, pow-lt, shr-shr, shl-exact, ones-split, ones-lt, high, le-ones, lt-of-le-ones}
 use Rattle.signers.specs.Sets.{NodeSet, indicator, count, both, either}
-use Rattle.signers.specs.Signers.{member, insert, without, union, common, size, meets, below, within, wordOf}
+use Rattle.signers.specs.Signers.{member, insert, without, union, common, size, meets, below, within}
+use Rattle.signers.specs.Words.{wordOf}
 use Rattle.signers.proofs.Counting.{count-same, count-mono, count-none, count-single, count-some, count-first, count-either, quorums-share-correct}
 
 -- ---- the bits of a word

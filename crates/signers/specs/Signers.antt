@@ -1,11 +1,10 @@
 -- R3.2: sets of nodes as words of 64 bits. Node u has bit u, which is worth 2 to the power u.
 -- Assumes nothing.
 use mathlib.Core.Bool.{Bool, not, cond}
-use Prim.Native.Nat.{ℕ, zero, suc, _-_, _/_, _%_, _^_}
+use Prim.Native.Nat.{ℕ, _-_, _/_, _%_, _^_}
 use lib.Dec.{eqb, ltb, leb}
 use lib.Bits.{bitAnd, bitOr}
 use lib.Count.{ones}
-use Rattle.signers.specs.Sets.{NodeSet}
 
 -- bit u of the word is set
 unfoldable pub member : ℕ → ℕ → Bool
@@ -42,8 +41,3 @@ below n = cond (leb n 64) (2 ^ n - 1) (2 ^ 64 - 1)
 -- no bit at n or above is set, as R4.4 asks of a record and 7 of a bundle
 unfoldable pub within : ℕ → ℕ → Bool
 within set n = ltb set (2 ^ n)
-
--- the word of a set: of the nodes below n, at most 64, those that are in the set have their bit
-unfoldable pub wordOf : NodeSet → (n : ℕ) → ℕ
-wordOf p zero = 0
-wordOf p (suc n) = cond (p n) (insert (wordOf p n) n) (wordOf p n)

@@ -19,7 +19,8 @@ use Rattle.protocol.specs.Trace.{Trace}
 use Rattle.record.specs.Record.{wellFormed}
 use Rattle.record.proofs.Encoding.{encoding-well-formed}
 use Rattle.protocol.proofs.WellFormed.{WellFormed}
-use Rattle.calls.specs.Records.{recordAt, ownSlot, slotWellFormed}
+use Rattle.calls.specs.Records.{recordAt, ownSlot}
+use Rattle.calls.specs.WellFormed.{slotWellFormed}
 use Rattle.calls.specs.Algorithm.{recordOf}
 use Rattle.calls.proofs.RecordBounds.{own-range}
 use Rattle.calls.proofs.FreeNumber.{refused-by-malformed}

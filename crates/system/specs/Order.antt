@@ -11,7 +11,7 @@ use Rattle.refusal.specs.Outcome.{refused}
 use Rattle.config.specs.declared.Slot.{Slot}
 use Rattle.config.specs.Config.{good, recordsSize}
 use Rattle.protocol.specs.Trace.{Trace, start, _then_calls_}
-use Rattle.calls.specs.Records.{allWellFormed}
+use Rattle.calls.specs.WellFormed.{allWellFormed}
 use Rattle.calls.specs.Broadcast.{broadcast}
 use Rattle.calls.specs.Receive.{receive}
 use Rattle.calls.specs.Showing.{delivered}

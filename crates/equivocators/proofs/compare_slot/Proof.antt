@@ -14,7 +14,8 @@ use Rattle.config.specs.Config.{good, slotOfDay, slotPlace, withOwn, recordSize
 use Rattle.record.specs.declared.Record.{Record}
 use Rattle.record.specs.Record.{bytes, wellFormed}
 use Rattle.record.proofs.Words.{Fits}
-use Rattle.calls.specs.Records.{recordAt, slotWellFormed}
+use Rattle.calls.specs.Records.{recordAt}
+use Rattle.calls.specs.WellFormed.{slotWellFormed}
 use Rattle.equivocators.proofs.Halves.{distinct}
 use Rattle.equivocators.proofs.Slots.{room, record-there, formed-there, names-there}
 use Rattle.equivocators.proofs.compare_slot.Statement.{statement}

@@ -8,12 +8,12 @@ use native.Mathlib.Omega.{arith}
 use lib.ListN.{length}
 use borrow.Author.Needs.{needs}
 use borrow.Author.Tests.{not-true, not-false}
-use Rattle.signers.specs.Signers.{wordOf}
+use Rattle.signers.specs.Words.{wordOf}
 use Rattle.signers.proofs.Members.{word-same}
 use Rattle.refusal.specs.Outcome.{done}
 use Rattle.config.specs.declared.Config.{Config}
 use Rattle.config.specs.Config.{good, withOwn, recordsSize}
-use Rattle.calls.specs.Records.{allWellFormed}
+use Rattle.calls.specs.WellFormed.{allWellFormed}
 use Rattle.equivocators.specs.Equivocators.{equivocates}
 use Rattle.equivocators.specs.Inner.{allFormed}
 use Rattle.equivocators.proofs.Refusals.{both-formed, own-again, self-formed, refused-config, refused-other, refused-size, refused-formed, refused-other-size, refused-either, refused-same, names}

@@ -17,7 +17,7 @@ use mir.Val.{ofZ, toZ}
 use Rattle.config.specs.declared.Config.{Config}
 use Rattle.config.proofs.Laws.{good-says}
 use Rattle.protocol.specs.Trace.{each}
-use Rattle.calls.specs.Records.{senderWellFormed, allWellFormed}
+use Rattle.calls.specs.WellFormed.{senderWellFormed, allWellFormed}
 use Rattle.protocol.proofs.ComputedTests.{each-next, each-fails}
 use Rattle.pool.specs.Pool.{pooled, pool}
 use Rattle.pool.specs.Inner.{foundIn}

@@ -21,7 +21,8 @@ use Rattle.payload.specs.Payload as payload
 use Rattle.record.specs.declared.Record.{Record}
 use Rattle.record.specs.Record.{bytes, decoded, wellFormed, payloadField}
 use Rattle.record.proofs.Words.{payload-words}
-use Rattle.calls.specs.Records.{recordAt, slotWellFormed, senderWellFormed}
+use Rattle.calls.specs.Records.{recordAt}
+use Rattle.calls.specs.WellFormed.{slotWellFormed, senderWellFormed}
 use Rattle.calls.proofs.Records.{place-fits}
 use Rattle.calls.proofs.RecordBounds.{loaded-part, record-at}
 use Rattle.protocol.proofs.ComputedTests.{each-next, each-fails}

@@ -13,7 +13,7 @@ use mir.Facts.{toZ-ofZ}
 use Rattle.refusal.specs.Outcome.{done}
 use Rattle.config.specs.declared.Config.{Config}
 use Rattle.config.specs.Config.{good, recordsSize}
-use Rattle.calls.specs.Records.{allWellFormed}
+use Rattle.calls.specs.WellFormed.{allWellFormed}
 use Rattle.middle.specs.Middle.{lowerMiddle}
 use Rattle.pool.specs.Pool.{pool}
 use Rattle.pool.specs.declared.Collection.{Collection}
