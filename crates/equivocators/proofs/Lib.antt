@@ -6,3 +6,4 @@ pub mod Below
 pub mod Refusals
 pub mod Named
 pub mod Computing
+pub mod Unique
