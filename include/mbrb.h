@@ -240,29 +240,33 @@
  *
  * 10. What it costs
  *
- *   - Memory: MBRB_RECORDS_SIZE(n) bytes of records, which the host gives. The library allocates nothing and has no
+ *   - Memory: MBRB_RECORDS_SIZE(n) bytes of records, which the host gives. The library allocates nothing and keeps no
  *     data of its own.
  *   - Stack: 72 bytes for mbrb_broadcast, 104 for mbrb_receive, 104 for mbrb_preview, 24 for mbrb_open, 240 for
- *     mbrb_setpoint, whatever they are given; and below mbrb_open what the host's memset takes. Besides, up to 48 bytes
- *     of arguments that the caller puts there. Each figure is the deepest chain of frames in the machine code, return
- *     addresses included: tests/call_graph adds them up, and tests/footprint sees the same on a stack that was painted
- *     before.
+ *     mbrb_setpoint, 384 for mbrb_equivocators, 384 for mbrb_check_equivocators, whatever they are given; and below
+ *     mbrb_open what the host's memset takes. Besides, up to 48 bytes of arguments that the caller puts there. Each
+ *     figure is the deepest chain of frames in the machine code, return addresses included: tests/call_graph adds them
+ *     up, and tests/footprint sees the same on a stack that was painted before.
  *   - No recursion: none of these functions calls itself, and none that they reach in the library does, directly or by
  *     another. All are called by name, none by a pointer. tests/call_graph looks at the whole call graph, that of the
  *     program which is proved and that of the machine code. The memset below mbrb_open is the host's, and not looked
  *     into.
  *   - Code: 1,511 bytes for mbrb_open and mbrb_receive, 625 more where mbrb_broadcast is used, 1,183 more where
- *     mbrb_preview is, and 872 more where mbrb_setpoint is: each of these three is a member of its own in the library,
- *     and a host that does not call it does not link it. The one symbol that the library takes from the host is memset,
- *     for mbrb_open.
- *   - Registers: no floating-point register is used, and of the vector registers xmm0 alone, by mbrb_broadcast,
- *     mbrb_receive and mbrb_setpoint. The first two clear the second half of a record by it, the third 128 bytes of its
- *     stack. So call these three only where vector registers are saved for what they interrupt.
+ *     mbrb_preview is, 872 more where mbrb_setpoint is, and 2,029 more where mbrb_equivocators or
+ *     mbrb_check_equivocators is, of which 76 are constants: there are four more members in the library, and a host
+ *     that calls nothing of one does not link it. The one symbol that the library takes from the host is memset, for
+ *     mbrb_open.
+ *   - Registers: no floating-point register is used, and of the vector registers xmm0 by mbrb_broadcast, mbrb_receive
+ *     and mbrb_setpoint, xmm0 and xmm1 by mbrb_equivocators and mbrb_check_equivocators. The first two clear the second
+ *     half of a record by it, the third 128 bytes of its stack; the last two copy by them where their buffers lie. So
+ *     call these five only where vector registers are saved for what they interrupt.
  *   - mbrb_receive uses 48 bytes below the stack pointer (the red zone of the calling convention), mbrb_broadcast 16,
- *     mbrb_preview 48, and mbrb_setpoint 128, counted above. Where interrupts run on the stack of what they interrupt,
- *     they must leave the 128 bytes below it alone, as the convention asks.
- *   - Time: mbrb_open and mbrb_setpoint go through all records, so that theirs grows with n. mbrb_broadcast goes
- *     through our own, and the others look at one record.
+ *     mbrb_preview 48, mbrb_setpoint 128, mbrb_equivocators 128 and mbrb_check_equivocators 128, counted above. Where
+ *     interrupts run on the stack of what they interrupt, they must leave the 128 bytes below it alone, as the
+ *     convention asks.
+ *   - Time: mbrb_open and mbrb_setpoint go through all records, mbrb_equivocators and mbrb_check_equivocators through
+ *     those of both units, so that theirs grows with n. mbrb_broadcast goes through our own, and the others look at one
+ *     record.
  *
  *
  * 11. A controller that is no x86-64
