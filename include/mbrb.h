@@ -387,9 +387,9 @@
  *
  * A faulty unit can say one thing to some units and another to others, and perhaps none of them hears both. Their
  * records have it all the same: mbrb_equivocators is given those of two units and names each unit that signed two
- * bodies in one slot. It is for whoever has both: a site engineer whose laptop has copies from a service visit, or a
- * host to which copies come over the network. No unit needs it for its day. examples/recordings is a program to start
- * from, with a page for site engineers.
+ * bodies in one slot. It is for whoever has recordings, which are copies of units' records: a site engineer with a
+ * laptop after a service visit, or a host to which copies come over the network. No unit needs it for its day.
+ * examples/recordings is a program to start from, with a page for site engineers.
  *
  * What it is given: one table, and the records of two units, `first` of the unit with the number `own` and `second` of
  * that with the number `other`. Which of the two comes first changes nothing in who is named.
