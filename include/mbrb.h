@@ -6,12 +6,13 @@
  * deliver different bodies in one slot (a day, a sender, a number from 0 to 15), whatever faulty units send and
  * whatever is lost, late, twice or out of order. This is proved of lists of calls of mbrb_open, mbrb_broadcast and
  * mbrb_receive, with every code and byte that they give; section 9 says what is argued of hosts that keep to this page.
- * Two more functions only read the records: mbrb_preview tells a display what taking a bundle would do, and does
- * nothing of it; mbrb_setpoint finds one setpoint among those that the units have announced, so that a unit with
- * swapped sensors does not drag the others along. Where a unit says two things in one slot, those that hear both note
- * the second one in their records, for people to see. Every host needs sections 1 to 8, in this order; 9 to 11 are to
- * look up, 12 is for a host with a display and says what a note is worth, and 13 is for one that acts on one setpoint
- * of the whole cascade.
+ * The others only read records. mbrb_preview tells a display what taking a bundle would do, and does nothing of it.
+ * mbrb_setpoint finds one setpoint among those that the units have announced, so that a unit with swapped sensors does
+ * not drag the others along. Where a unit says two things in one slot, those that hear both note the second one in
+ * their records, for people to see; where no unit hears both, mbrb_equivocators finds it in the records of two units,
+ * and mbrb_check_equivocators says why it could not look. Every host needs sections 1 to 8, in this order; 9 to 11 are
+ * to look up, 12 is for a host with a display and says what a note is worth, 13 is for one that acts on one setpoint of
+ * the whole cascade, and 14 is for whoever has the records of two units.
  *
  *
  * 1. Link it
@@ -38,21 +39,23 @@
  *      that the bundle's sender says two things (section 12), and go on as before.
  * A code from 1 to 99 is a refusal: no byte has changed, and the number says why. Section 8 says what to do. A preview
  * is none of these steps, and comes between them as often as a display wants it (section 12). To ask for the setpoint
- * of the whole cascade is a part of acting, for a host that heats by it (section 13).
+ * of the whole cascade is a part of acting, for a host that heats by it (section 13). To compare the records of two
+ * units is no part of a unit's day (section 14).
  *
  *
  * 3. The memory that a call is lent
  *
  * - Each pointer has at least as many bytes behind it as the length beside it says, until the call is back. No pointer
  *   is null, not even one whose length is 0. Any alignment will do, and what `out` holds before does not matter.
- * - The buffers of a call do not overlap.
- * - Nobody else writes to them during the call, nor reads `out`, nor `records` unless the call is mbrb_preview or
- *   mbrb_setpoint: no interrupt, no other core, no device.
+ * - The buffers of a call do not overlap, but for `first` and `second` of section 14: these two are only read, and may
+ *   overlap or be the same.
+ * - Nobody else writes to them during the call, nor reads those that are not declared const: no interrupt, no other
+ *   core, no device.
  * - Calls on different records may run at once, since nothing is kept between calls. On the same records they come one
  *   after the other: a lock for two tasks spans the comparison of days (section 4), an opening, the call with the
- *   block's day, the saving, and the copying of `out`. It spans mbrb_preview and mbrb_setpoint too. These two only read
- *   the records, so that several of them may run at once on the same ones, each preview with its own `out`, while no
- *   other call does.
+ *   block's day, the saving, and the copying of `out`. It spans mbrb_preview, mbrb_setpoint, mbrb_equivocators and
+ *   mbrb_check_equivocators too. These four only read the records, so that several of them may run at once on the same
+ *   ones, each preview with its own `out`, while no other call does.
  * A call is safe with all bytes, lengths and numbers that keep to this.
  *
  *
@@ -80,10 +83,10 @@
  * unit that was off for longer then needs somebody who confirms the date. A day is any number that only grows and that
  * all units share; it may stand for an hour.
  *
- * What to save. A refusal, mbrb_preview and mbrb_setpoint change no record. MBRB_KEPT, MBRB_NOTED, MBRB_SIGNED and
- * MBRB_DELIVERED of mbrb_receive change the MBRB_RECORD_SIZE bytes at MBRB_RECORD_AT(sender, number), by the sender and
- * number of the bundle taken. MBRB_ANNOUNCED(number) changes those at MBRB_RECORD_AT(own, number). No other byte of the
- * records changes, which is proved. mbrb_open changes all of them.
+ * What to save. A refusal changes no record, and neither do the four calls that only read (section 3). MBRB_KEPT,
+ * MBRB_NOTED, MBRB_SIGNED and MBRB_DELIVERED of mbrb_receive change the MBRB_RECORD_SIZE bytes at
+ * MBRB_RECORD_AT(sender, number), by the sender and number of the bundle taken. MBRB_ANNOUNCED(number) changes those at
+ * MBRB_RECORD_AT(own, number). No other byte of the records changes, which is proved. mbrb_open changes all of them.
  *   - These 64 bytes are saved all or nothing: after a loss of power either the old or the new ones are there. A
  *     mixture can be a record that claims signatures which nobody gave.
  *   - After MBRB_SIGNED, MBRB_DELIVERED and MBRB_ANNOUNCED(number) the record is saved before `out` is sent, before the
@@ -189,6 +192,7 @@
  *                  this one is not noted. The slot may still be delivered
  *   25             no more announcements until the next day
  *   27             usual: too few senders have a setpoint that is delivered here. Go on as before (section 13)
+ *   28             a mistake of whoever compares: the records are said to be of one unit twice (section 14)
  *
  * 21, MBRB_UNSOUND_RECORD: the record is not one that these calls leave. The day was not opened (which is not noticed
  * where the bytes happen to be zero), the table is another one (with a stricter quorum, for instance), 64 bytes are
@@ -197,7 +201,8 @@
  * repair them, and do not open this day again. Where a copy holds exactly what was saved last, load it as after a
  * restart; if 21 or 23 comes again after that, do not load again. Otherwise the unit is silent until it opens a day
  * that is later than the last opened day kept apart (section 5), since the day in the block may be damaged too; the
- * others bear that, as one of their t.
+ * others bear that, as one of their t. All this is for a unit and its own records. Where copies are compared, section
+ * 14 says what 21 is.
  *
  * 23, MBRB_OWN_SIGNATURE_UNKNOWN: the bundle has our bit, and our record does not hold its body. Let the key chip look
  * at our signature again.
@@ -212,50 +217,56 @@
  * none, that taking and announcing write to the record of their slot and to no other, that taking answers by this
  * record, the input, the table and the lengths, and announcing by our own sixteen records besides, that a preview gives
  * taking's code and `out` and leaves the records, that mbrb_setpoint leaves them too and stays between the setpoints of
- * sound senders, as section 13 says, that what a record notes changes neither what is delivered nor what is sent, and
- * that a call ends.
+ * sound senders, as section 13 says, that what a record notes changes neither what is delivered nor what is sent, which
+ * units mbrb_equivocators names, and that a call ends.
  * Proved of whole lists of calls at sound units, for each quorum that is allowed: agreement, at most one delivery and
  * two sendings in a slot, only announced bodies in a sound sender's slots, and delivery as in section 7; that 21 does
  * not come there, nor 23 where the bits are true; that previews between the calls change nothing of it; that what
- * mbrb_setpoint pools of a sound sender is something that this sender announced; and that signers in a record are worth
- * what section 12 says.
+ * mbrb_setpoint pools of a sound sender is something that this sender announced; that signers in a record are worth
+ * what section 12 says; and that the records of two sound units are compared, and name no sound unit (section 14).
  * docs/CLAIMS.md has each with its file.
  *
- * Argued and not proved: that a host which keeps to sections 3 to 7, 12 and 13 is such a list. The lists know no
+ * Argued and not proved: that a host which keeps to sections 3 to 7 and 12 to 14 is such a list. The lists know no
  * restart. A call whose change was lost before anything of it was sent or acted on is left out of the list: its answer
  * was seen by nobody, and what is proved of records says that calls on other slots give the same answers without it.
  * (Announcing looks at several slots, so an announcement is saved before the next call.) With a lost MBRB_KEPT all of
  * agreement stands, and in delivery that bundle counts as one that has not reached this unit, until it comes again.
  * With a lost MBRB_NOTED agreement and delivery stand as if it were not lost: what a record notes changes none of them.
- * tests/power_cuts tries it on examples/host. Assumed: the Rattle kit, its logic with its checker, front end and back
- * end, and the host's memset.
+ * tests/power_cuts tries it on examples/host. What is proved of comparing is of the records at the end of a list, those
+ * of both units at one moment. Copies of two moments do as well: the bit of a sound unit in the older copy stands
+ * beside a body that it had signed by then, and in that slot it signs no other one later. Assumed: the Rattle kit, its
+ * logic with its checker, front end and back end, and the host's memset.
  *
  *
  * 10. What it costs
  *
- *   - Memory: MBRB_RECORDS_SIZE(n) bytes of records, which the host gives. The library allocates nothing and has no
+ *   - Memory: MBRB_RECORDS_SIZE(n) bytes of records, which the host gives. The library allocates nothing and keeps no
  *     data of its own.
  *   - Stack: 72 bytes for mbrb_broadcast, 104 for mbrb_receive, 104 for mbrb_preview, 24 for mbrb_open, 240 for
- *     mbrb_setpoint, whatever they are given; and below mbrb_open what the host's memset takes. Besides, up to 48 bytes
- *     of arguments that the caller puts there. Each figure is the deepest chain of frames in the machine code, return
- *     addresses included: tests/call_graph adds them up, and tests/footprint sees the same on a stack that was painted
- *     before.
+ *     mbrb_setpoint, 384 for mbrb_equivocators, 384 for mbrb_check_equivocators, whatever they are given; and below
+ *     mbrb_open what the host's memset takes. Besides, up to 48 bytes of arguments that the caller puts there. Each
+ *     figure is the deepest chain of frames in the machine code, return addresses included: tests/call_graph adds them
+ *     up, and tests/footprint sees the same on a stack that was painted before.
  *   - No recursion: none of these functions calls itself, and none that they reach in the library does, directly or by
  *     another. All are called by name, none by a pointer. tests/call_graph looks at the whole call graph, that of the
  *     program which is proved and that of the machine code. The memset below mbrb_open is the host's, and not looked
  *     into.
  *   - Code: 1,511 bytes for mbrb_open and mbrb_receive, 625 more where mbrb_broadcast is used, 1,183 more where
- *     mbrb_preview is, and 872 more where mbrb_setpoint is: each of these three is a member of its own in the library,
- *     and a host that does not call it does not link it. The one symbol that the library takes from the host is memset,
- *     for mbrb_open.
- *   - Registers: no floating-point register is used, and of the vector registers xmm0 alone, by mbrb_broadcast,
- *     mbrb_receive and mbrb_setpoint. The first two clear the second half of a record by it, the third 128 bytes of its
- *     stack. So call these three only where vector registers are saved for what they interrupt.
+ *     mbrb_preview is, 872 more where mbrb_setpoint is, and 2,029 more where mbrb_equivocators or
+ *     mbrb_check_equivocators is, of which 76 are constants: there are four more members in the library, and a host
+ *     that calls nothing of one does not link it. The one symbol that the library takes from the host is memset, for
+ *     mbrb_open.
+ *   - Registers: no floating-point register is used, and of the vector registers xmm0 by mbrb_broadcast, mbrb_receive
+ *     and mbrb_setpoint, xmm0 and xmm1 by mbrb_equivocators and mbrb_check_equivocators. The first two clear the second
+ *     half of a record by it, the third 128 bytes of its stack; the last two copy by them where their buffers lie. So
+ *     call these five only where vector registers are saved for what they interrupt.
  *   - mbrb_receive uses 48 bytes below the stack pointer (the red zone of the calling convention), mbrb_broadcast 16,
- *     mbrb_preview 48, and mbrb_setpoint 128, counted above. Where interrupts run on the stack of what they interrupt,
- *     they must leave the 128 bytes below it alone, as the convention asks.
- *   - Time: mbrb_open and mbrb_setpoint go through all records, so that theirs grows with n. mbrb_broadcast goes
- *     through our own, and the others look at one record.
+ *     mbrb_preview 48, mbrb_setpoint 128, mbrb_equivocators 128 and mbrb_check_equivocators 128, counted above. Where
+ *     interrupts run on the stack of what they interrupt, they must leave the 128 bytes below it alone, as the
+ *     convention asks.
+ *   - Time: mbrb_open and mbrb_setpoint go through all records, mbrb_equivocators and mbrb_check_equivocators through
+ *     those of both units, so that theirs grows with n. mbrb_broadcast goes through our own, and the others look at one
+ *     record.
  *
  *
  * 11. A controller that is no x86-64
@@ -315,9 +326,9 @@
  * installer: that unit, or whoever has its key, says two things. Of each other unit a bit says that it signed the body
  * beside it, be it held, delivered or noted; and in the records of all sound units together, the bit of a sound unit
  * stands beside one body of a slot at most. That there is no note says nothing: a faulty sender's two bodies need not
- * meet at a unit. Where the signatures are to be shown to others, the host stores them apart from those of section 6:
- * those that came with a noted bundle, and those that section 6 drops where another body than the held one is
- * delivered.
+ * meet at a unit; section 14 looks for them in the records of two. Where the signatures are to be shown to others, the
+ * host stores them apart from those of section 6: those that came with a noted bundle, and those that section 6 drops
+ * where another body than the held one is delivered.
  *
  *
  * 13. One setpoint from many
@@ -370,6 +381,61 @@
  *     of each sound one; and once over it does not come again that day.
  *   - 21, MBRB_UNSOUND_RECORD: some record of the buffer is not sound, whether it would count or not. Do what section 8
  *     says. 1 and 20 are mistakes in the host.
+ *
+ *
+ * 14. Two units' recordings side by side
+ *
+ * A faulty unit can say one thing to some units and another to others, and perhaps none of them hears both. Their
+ * records have it all the same: mbrb_equivocators is given those of two units and names each unit that signed two
+ * bodies in one slot. It is for whoever has recordings, which are copies of units' records: a site engineer with a
+ * laptop after a service visit, or a host to which copies come over the network. No unit needs it for its day.
+ * examples/recordings is a program to start from, with a page for site engineers.
+ *
+ * What it is given: one table, and the records of two units, `first` of the unit with the number `own` and `second` of
+ * that with the number `other`. Which of the two comes first changes nothing in who is named.
+ *   - Both are of one day, and n, t, d and quorum are those of that day. No call can notice another day, since the
+ *     records do not hold theirs. Each day the numbers start anew, so that in records of two days a sound unit has
+ *     signed two bodies under one number, and it is named. So copy the unit's number, its day and its quorum with the
+ *     records, and compare days and quorums before the call.
+ *   - A copy is whole: what the unit has saved, all or nothing (section 4), or its records in working memory, copied
+ *     under the lock (section 3). It is unchanged: 21 does not see all damage, and a body with one bit changed looks
+ *     like a second one, so let a checksum go with it. The two copies need not be of one moment, nor of the end of the
+ *     day. On copies there is nothing to lock, to save or to send.
+ *
+ * What comes out is a word of bits, as in a bundle: unit u is the bit of weight 2 to the power u, and
+ * MBRB_IS_NAMED(word, u) reads it. Unit u is named exactly if there is a slot in which its bit stands beside two
+ * different bodies, anywhere in the records of the two: held, delivered or noted, each at another unit or both at one.
+ * Where a slot has two bodies its sender is always named, since no body stands in a sound record without the sender's
+ * bit. The word is no code: 1 names unit 0. It is 0 where nobody is named, and also where nothing is compared; which of
+ * the two it is, mbrb_check_equivocators tells for the same arguments, by MBRB_COMPARED or the refusal. So ask for the
+ * word first, and if it is 0 for the code.
+ *
+ * What it proves:
+ *   - If the bits of both records are true (section 6), a named unit, or whoever has its key, has signed two bodies in
+ *     one slot.
+ *   - From two sound units that have opened the day, in a cascade that keeps to this page, nothing is refused and no
+ *     sound unit is named. So those that are named are faulty, and they are t at most. Where more than t are named,
+ *     something is wrong with what was compared: the copies are of two days, or one of the two units is faulty, or more
+ *     than t units are.
+ * What it does not prove:
+ *   - That a unit which is not named is sound. It may be silent, or wrong in what it says to all alike; or its two
+ *     bodies have not met in these records, and meet in those of another pair.
+ *   - Anything, where one of the two units is faulty itself: the bits are then what that unit wrote, and can name
+ *     anybody. Where a name has to convince others, show them the two signatures, which prove it whoever brings them. A
+ *     host that is ready for this stores those that section 12 names too, and deletes none as long as they may be asked
+ *     for.
+ *   - Why. A unit that lost its block and signed a second time is named like one that lies, and counts as faulty for
+ *     that day (section 4).
+ *
+ * Where nothing is compared:
+ *   - 28, MBRB_SAME_UNIT: `own` and `other` are the same number. One copy was given twice, or has a wrong number. What
+ *     one unit has noted by itself is named beside the records of any other one.
+ *   - 21, MBRB_UNSOUND_RECORD: some record is not sound for the unit that the copy is said to be of. The copy is
+ *     damaged or not whole, or its number, n, t, d or quorum are another unit's or another day's. Copy again. If 21
+ *     stays, that unit's own records are such, and it does what section 8 says.
+ *   - 20, and 1 where the table is not good with `own` or not with `other`, are mistakes of whoever compares.
+ * `first` is looked at before `second`. Which of the two it was that 20 or 21 refused, mbrb_setpoint tells: given one
+ * of them with its unit's number, it gives 20 and 21 for the same reasons.
  */
 #ifndef MBRB_H
 #define MBRB_H
@@ -383,9 +449,9 @@ extern "C" {
 
 /* The version of this interface and of the formats below. CHANGELOG.md says what each number stands for. */
 #define MBRB_VERSION_MAJOR 3
-#define MBRB_VERSION_MINOR 0
+#define MBRB_VERSION_MINOR 1
 #define MBRB_VERSION_PATCH 0
-#define MBRB_VERSION "3.0.0"
+#define MBRB_VERSION "3.1.0"
 
 /* Sizes of the buffers, in bytes. */
 #define MBRB_BODY_SIZE 16
@@ -447,30 +513,42 @@ extern "C" {
 #define MBRB_IS_SETPOINT(code) ((uint32_t)(code) >> 16 == 1u)
 #define MBRB_SETPOINT(code) ((int16_t)((int32_t)(((uint32_t)(code) & 0xffffu) ^ 0x8000u) - 32768))
 
+/* Whether a unit, from 0 to 63, is named in the word that mbrb_equivocators gives. Each argument is evaluated once, and
+ * it is constant where they are. */
+#define MBRB_IS_NAMED(word, unit) (((uint64_t)(word) >> (unit) & 1u) != 0)
+
+/* Code of mbrb_check_equivocators. */
+#define MBRB_COMPARED 0 /* nothing is refused: where mbrb_equivocators gives 0, nobody is named */
+
 /* Refusals, 1 to 99: the first that applies in this order. No byte has changed. In brackets the calls that may give it:
- * O mbrb_open, B mbrb_broadcast, R mbrb_receive, P mbrb_preview, S mbrb_setpoint. */
-#define MBRB_BAD_TABLE 1               /* [O B R P S] n not 1 to 64, or n <= 3t + 2d, or own >= n, or the quorum below
-                                                      MBRB_LEAST_QUORUM(n, t) or above MBRB_MOST_QUORUM(n, t, d) */
-#define MBRB_BUNDLE_LENGTH 2           /* [R P]       the bundle has not 32 bytes */
-#define MBRB_RESERVED_BYTES 3          /* [R P]       byte 6 or 7 of the bundle is not zero */
-#define MBRB_OTHER_DAY 4               /* [R P]       the bundle is of another day */
-#define MBRB_SENDER_RANGE 5            /* [R P]       its sender is n or above */
-#define MBRB_NUMBER_RANGE 6            /* [R P]       its number is above 15 */
-#define MBRB_SIGNER_RANGE 7            /* [R P]       it has a signer at n or above */
-#define MBRB_SENDER_UNSIGNED 8         /* [R P]       its sender has not signed it */
-#define MBRB_BODY_LENGTH 9             /* [B]         the body has not 16 bytes */
-#define MBRB_OUT_LENGTH 10             /* [B R P]     `out` has not 32 bytes */
-#define MBRB_RECORDS_LENGTH 20         /* [O B R P S] `records` has not MBRB_RECORDS_SIZE(n) bytes */
-#define MBRB_UNSOUND_RECORD 21         /* [B R P S]   the slot's record, one of ours before the first free one, or for S
-                                                      any record, is none that these calls leave: section 8 */
-#define MBRB_ALREADY_DELIVERED 22      /* [R P]       the slot is delivered already; this is usual, nothing is wrong */
-#define MBRB_OWN_SIGNATURE_UNKNOWN 23  /* [R P]       it has our signature, yet our record does not hold its body:
-                                                      section 8 */
-#define MBRB_OTHER_BODY 24             /* [R P]       another body is held and a third is noted, and fewer than a
-                                                      quorum signed this one: its sender says three things */
-#define MBRB_NO_FREE_NUMBER 25         /* [B]         our sixteen numbers of the day are used up */
-#define MBRB_TOO_FEW_SETPOINTS 27      /* [S]         fewer than 2t + 1 senders have a delivered setpoint; this is
-                                                      usual, nothing is wrong: section 13 */
+ * O mbrb_open, B mbrb_broadcast, R mbrb_receive, P mbrb_preview, S mbrb_setpoint, E mbrb_check_equivocators, where
+ * mbrb_equivocators gives 0. E tests 20 and 21 of `first` before those of `second`. */
+#define MBRB_BAD_TABLE 1               /* [O B R P S E] n not 1 to 64, or n <= 3t + 2d, or own >= n, or for E
+                                                        other >= n, or the quorum below MBRB_LEAST_QUORUM(n, t) or above
+                                                        MBRB_MOST_QUORUM(n, t, d) */
+#define MBRB_BUNDLE_LENGTH 2           /* [R P]         the bundle has not 32 bytes */
+#define MBRB_RESERVED_BYTES 3          /* [R P]         byte 6 or 7 of the bundle is not zero */
+#define MBRB_OTHER_DAY 4               /* [R P]         the bundle is of another day */
+#define MBRB_SENDER_RANGE 5            /* [R P]         its sender is n or above */
+#define MBRB_NUMBER_RANGE 6            /* [R P]         its number is above 15 */
+#define MBRB_SIGNER_RANGE 7            /* [R P]         it has a signer at n or above */
+#define MBRB_SENDER_UNSIGNED 8         /* [R P]         its sender has not signed it */
+#define MBRB_BODY_LENGTH 9             /* [B]           the body has not 16 bytes */
+#define MBRB_OUT_LENGTH 10             /* [B R P]       `out` has not 32 bytes */
+#define MBRB_RECORDS_LENGTH 20         /* [O B R P S E] `records`, for E `first` or `second`, has not
+                                                        MBRB_RECORDS_SIZE(n) bytes */
+#define MBRB_UNSOUND_RECORD 21         /* [B R P S E]   the slot's record, one of ours before the first free one, or for
+                                                        S and E any record, is none that these calls leave: section 8,
+                                                        for E section 14 */
+#define MBRB_ALREADY_DELIVERED 22      /* [R P]         the slot is delivered already: usual, nothing is wrong */
+#define MBRB_OWN_SIGNATURE_UNKNOWN 23  /* [R P]         it has our signature, yet our record does not hold its body:
+                                                        section 8 */
+#define MBRB_OTHER_BODY 24             /* [R P]         another body is held and a third is noted, and fewer than a
+                                                        quorum signed this one: its sender says three things */
+#define MBRB_NO_FREE_NUMBER 25         /* [B]           our sixteen numbers of the day are used up */
+#define MBRB_TOO_FEW_SETPOINTS 27      /* [S]           fewer than 2t + 1 senders have a delivered setpoint; this is
+                                                        usual, nothing is wrong: section 13 */
+#define MBRB_SAME_UNIT 28              /* [E]           `first` and `second` are said to be of one unit: section 14 */
 
 /* Each function takes the table first: n, t, d, own, day and quorum; all but own are the same at all units. */
 
@@ -502,6 +580,19 @@ uint32_t mbrb_preview(uint8_t n, uint8_t t, uint8_t d, uint8_t own, uint32_t day
  * sender. Nothing is written (section 13). */
 uint32_t mbrb_setpoint(uint8_t n, uint8_t t, uint8_t d, uint8_t own, uint32_t day, uint32_t quorum,
                        const uint8_t *records, size_t records_len);
+
+/* For whoever has the records of two units, of one day: names those that signed two bodies in one slot, a bit for each
+ * unit. `first` are the records of unit `own`, and `second` those of unit `other`. It gives 0 where nobody is named,
+ * and where nothing is compared. Nothing is written (section 14). */
+uint64_t mbrb_equivocators(uint8_t n, uint8_t t, uint8_t d, uint8_t own, uint32_t day, uint32_t quorum, uint8_t other,
+                           const uint8_t *first, size_t first_len,
+                           const uint8_t *second, size_t second_len);
+
+/* What the 0 of mbrb_equivocators means, for the same arguments: MBRB_COMPARED, or why nothing is compared. */
+uint32_t mbrb_check_equivocators(uint8_t n, uint8_t t, uint8_t d, uint8_t own, uint32_t day, uint32_t quorum,
+                                 uint8_t other,
+                                 const uint8_t *first, size_t first_len,
+                                 const uint8_t *second, size_t second_len);
 
 #ifdef __cplusplus
 }

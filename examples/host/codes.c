@@ -1,7 +1,7 @@
 /* Every code of include/mbrb.h, provoked once: its number and name as the header has them, and what the call gave. Each bundle is
  * previewed before it is taken. Then what the header says of places and bytes, what is noted where a sender says two things in a slot,
- * what a stricter quorum does, what happens to a host that gives the records of a day another day or another quorum, and which setpoint
- * comes out of many.
+ * what a stricter quorum does, what happens to a host that gives the records of a day another day or another quorum, which setpoint
+ * comes out of many, and who is named where the records of two units lie side by side.
  *
  * Four units, of which one may be faulty, with the least quorum, which is 3; we are unit 1, on day 7. Each call starts from the records that
  * its line needs. The stricter quorum is that of a site with eight units.
@@ -28,6 +28,7 @@ static const struct table of_day_8 = {UNITS, 1, 0, 1, 8, MBRB_LEAST_QUORUM(UNITS
 static const struct table of_nobody = {UNITS, 1, 0, UNITS, 7, MBRB_LEAST_QUORUM(UNITS, 1)}; /* our own number is none of the four */
 
 static uint8_t records[SITE_RECORDS]; /* the four units use the first RECORDS bytes */
+static uint8_t seconds[SITE_RECORDS]; /* the records of another unit, to lie beside those above */
 static uint8_t bundle[MBRB_BUNDLE_SIZE];
 static uint8_t body[MBRB_BODY_SIZE];
 static uint8_t out[MBRB_BUNDLE_SIZE];
@@ -94,6 +95,34 @@ static uint32_t pool_by(struct table by, size_t records_len)
     return code;
 }
 
+/* Lays the records beside the second ones, which are those of the unit `other`. Nothing is written, and where it refuses, nobody is named. */
+static uint32_t compare_by(struct table by, uint8_t other, size_t first_len, size_t second_len, uint64_t *named)
+{
+    uint8_t before[sizeof records], seconds_before[sizeof seconds];
+    uint32_t code;
+
+    memcpy(before, records, sizeof records);
+    memcpy(seconds_before, seconds, sizeof seconds);
+    *named = mbrb_equivocators(by.n, by.t, by.d, by.own, by.day, by.quorum, other, records, first_len, seconds, second_len);
+    code = mbrb_check_equivocators(by.n, by.t, by.d, by.own, by.day, by.quorum, other, records, first_len, seconds, second_len);
+    if (memcmp(records, before, sizeof records) != 0 || memcmp(seconds, seconds_before, sizeof seconds) != 0) {
+        puts("    comparing wrote to the records");
+        differ = 1;
+    }
+    if (code != MBRB_COMPARED && *named != 0) {
+        puts("    it refuses, and names somebody");
+        differ = 1;
+    }
+    return code;
+}
+
+static uint32_t check_by(struct table by, uint8_t other, size_t first_len, size_t second_len)
+{
+    uint64_t named;
+
+    return compare_by(by, other, first_len, second_len, &named);
+}
+
 static void open_day(void)
 {
     open_by(usual, RECORDS);
@@ -136,6 +165,8 @@ static void refused_from_the_input(void)
     TOLD(MBRB_BAD_TABLE, announce_by(of_nobody, sizeof body, RECORDS, sizeof out));
     TOLD(MBRB_BAD_TABLE, take_by(of_nobody, sizeof bundle, RECORDS, sizeof out));
     TOLD(MBRB_BAD_TABLE, pool_by(of_nobody, RECORDS));
+    TOLD(MBRB_BAD_TABLE, check_by(of_nobody, 2, RECORDS, RECORDS));
+    TOLD(MBRB_BAD_TABLE, check_by(usual, UNITS, RECORDS, RECORDS));
     TOLD(MBRB_BUNDLE_LENGTH, take_by(usual, 31, RECORDS, sizeof out));
     bring_with(6, 1);
     TOLD(MBRB_RESERVED_BYTES, take());
@@ -161,10 +192,13 @@ static void refused_from_the_state(void)
     TOLD(MBRB_RECORDS_LENGTH, announce_by(usual, sizeof body, RECORDS - 1, sizeof out));
     TOLD(MBRB_RECORDS_LENGTH, take_by(usual, sizeof bundle, RECORDS - 1, sizeof out));
     TOLD(MBRB_RECORDS_LENGTH, pool_by(usual, RECORDS - 1));
+    TOLD(MBRB_RECORDS_LENGTH, check_by(usual, 2, RECORDS - 1, RECORDS));
+    TOLD(MBRB_RECORDS_LENGTH, check_by(usual, 2, RECORDS, RECORDS + 1));
     memset(records, 0xff, RECORDS);
     TOLD(MBRB_UNSOUND_RECORD, announce());
     TOLD(MBRB_UNSOUND_RECORD, take());
     TOLD(MBRB_UNSOUND_RECORD, pool());
+    TOLD(MBRB_UNSOUND_RECORD, check_by(usual, 2, RECORDS, RECORDS));
     open_day();
     bring(1 | 2, 'a');
     TOLD(MBRB_OWN_SIGNATURE_UNKNOWN, take());
@@ -181,6 +215,7 @@ static void refused_from_the_state(void)
         announce();
     TOLD(MBRB_NO_FREE_NUMBER, announce());
     TOLD(MBRB_TOO_FEW_SETPOINTS, pool());
+    TOLD(MBRB_SAME_UNIT, check_by(usual, 1, RECORDS, RECORDS));
 }
 
 static void done(void)
@@ -200,6 +235,7 @@ static void done(void)
     TOLD(MBRB_NOTED, take());
     bring(1 | 8, 'a');
     TOLD(MBRB_DELIVERED, take());
+    TOLD(MBRB_COMPARED, check_by(usual, 2, RECORDS, RECORDS));
     TOLD(MBRB_OPENED, open_by(bears_a_loss, MBRB_RECORDS_SIZE(3)));
     TOLD(MBRB_BAD_TABLE, open_by(bears_a_fault, MBRB_RECORDS_SIZE(3)));
     TOLD(MBRB_ANNOUNCED(0), announce_by(bears_a_loss, sizeof body, MBRB_RECORDS_SIZE(3), sizeof out));
@@ -209,6 +245,8 @@ static void done(void)
     TOLD(MBRB_BAD_TABLE, take_by(bears_a_fault, sizeof bundle, MBRB_RECORDS_SIZE(3), sizeof out));
     TOLD(MBRB_TOO_FEW_SETPOINTS, pool_by(bears_a_loss, MBRB_RECORDS_SIZE(3)));
     TOLD(MBRB_BAD_TABLE, pool_by(bears_a_fault, MBRB_RECORDS_SIZE(3)));
+    TOLD(MBRB_COMPARED, check_by(bears_a_loss, 2, MBRB_RECORDS_SIZE(3), MBRB_RECORDS_SIZE(3)));
+    TOLD(MBRB_BAD_TABLE, check_by(bears_a_fault, 2, MBRB_RECORDS_SIZE(3), MBRB_RECORDS_SIZE(3)));
 }
 
 static void previews(void)
@@ -632,6 +670,182 @@ static void setpoints_by_the_quorum(void)
     TOLD(MBRB_UNSOUND_RECORD, pool_by(site(6), SITE_RECORDS));
 }
 
+/* Unit `own` of the site, with quorum 5. */
+static struct table site_of(uint8_t own)
+{
+    struct table table = site(5);
+
+    table.own = own;
+    return table;
+}
+
+/* A bundle that unit 1 or unit 2 of the site takes, and the code that this gives. */
+struct heard {
+    uint8_t own, sender, number;
+    unsigned signers;
+    char text;
+    uint32_t code;
+};
+
+/* The day of one of the two: it opens, and takes what is for it. A list of bundles ends with one that is for unit 0. */
+static void play(uint8_t own, const struct heard *heard)
+{
+    open_by(site_of(own), SITE_RECORDS);
+    for (; heard->own != 0; heard++)
+        if (heard->own == own) {
+            uint32_t code;
+            bring(heard->signers, heard->text);
+            bundle[MBRB_SENDER_AT] = heard->sender;
+            bundle[MBRB_NUMBER_AT] = heard->number;
+            code = take_by(site_of(own), sizeof bundle, SITE_RECORDS, sizeof out);
+            if (code != heard->code) {
+                printf("    unit %d takes %c: %" PRIu32 " in place of %" PRIu32 "\n", own, heard->text, code, heard->code);
+                differ = 1;
+            }
+        }
+}
+
+/* What unit 2 has is copied, and then unit 1 has its day, which is ours. */
+static void play_both(const struct heard *heard)
+{
+    play(2, heard);
+    memcpy(seconds, records, sizeof records);
+    play(1, heard);
+}
+
+/* Who is named, a bit for each unit: the same whichever of the two comes first. */
+static uint64_t named_on(uint32_t day)
+{
+    const struct table by = {SITE_UNITS, 1, 1, 1, day, 5};
+    uint64_t named;
+    const uint32_t code = compare_by(by, 2, SITE_RECORDS, SITE_RECORDS, &named);
+
+    if (code != MBRB_COMPARED || mbrb_equivocators(by.n, by.t, by.d, 2, by.day, by.quorum, 1, seconds, SITE_RECORDS, records, SITE_RECORDS) != named) {
+        printf("    %" PRIu32 ", or others are named where the two change places\n", code);
+        differ = 1;
+    }
+    return named;
+}
+
+static void told_named(const char *of, uint64_t expected, uint64_t named)
+{
+    printf("names%s", named == 0 ? " nobody" : "");
+    for (unsigned unit = 0; unit < MBRB_UNITS_MAX; unit++)
+        if (MBRB_IS_NAMED(named, unit))
+            printf(" %u", unit);
+    printf(": %s\n", of);
+    if (named != expected) {
+        printf("    the header has %016" PRIx64 "\n", expected);
+        differ = 1;
+    }
+}
+
+/* Signers are 1 for unit 0, 2 for us, 4 for unit 2, and so on up to 128 for unit 7. Two bodies in one slot always name its sender. */
+static void names(void)
+{
+    static const struct {
+        const char *of;
+        uint64_t named;
+        struct heard heard[7];
+    } cases[] = {
+        {"both have opened the day and heard nothing", 0, {{0}}},
+        {"a at both", 0, {{2, 0, 0, 1, 'a', MBRB_SIGNED}, {1, 0, 0, 1, 'a', MBRB_SIGNED}}},
+        {"a and b in two slots", 0, {{2, 0, 1, 1 | 128, 'b', MBRB_SIGNED}, {1, 0, 0, 1 | 128, 'a', MBRB_SIGNED}}},
+        {"a held by us, b by unit 2, and nobody has noted it", 1, {{2, 0, 0, 1, 'b', MBRB_SIGNED}, {1, 0, 0, 1, 'a', MBRB_SIGNED}}},
+        {"and unit 7 has signed both", 1 | 128, {{2, 0, 0, 1 | 128, 'b', MBRB_SIGNED}, {1, 0, 0, 1 | 128, 'a', MBRB_SIGNED}}},
+        {"and so have we, who have lost the block that knew it", 1 | 2, {{2, 0, 0, 1 | 2, 'b', MBRB_SIGNED}, {1, 0, 0, 1, 'a', MBRB_SIGNED}}},
+        {"and so has unit 2", 1 | 4, {{2, 0, 0, 1, 'b', MBRB_SIGNED}, {1, 0, 0, 1 | 4, 'a', MBRB_SIGNED}}},
+        {"in the first slot and in the last, and not in the one between", 1 | 128,
+         {{2, 0, 0, 1, 'b', MBRB_SIGNED}, {2, 3, 4, 8, 'b', MBRB_SIGNED}, {2, 7, 15, 128, 'b', MBRB_SIGNED},
+          {1, 0, 0, 1, 'a', MBRB_SIGNED}, {1, 3, 4, 8, 'b', MBRB_SIGNED}, {1, 7, 15, 128, 'a', MBRB_SIGNED}}},
+        {"a delivered by us, b by unit 2: so many are faulty that units disagree", 1 | 16 | 32 | 64 | 128,
+         {{2, 0, 0, 1 | 16 | 32 | 64 | 128, 'b', MBRB_DELIVERED}, {1, 0, 0, 1 | 16 | 32 | 64 | 128, 'a', MBRB_DELIVERED}}},
+        {"a held and b noted by us, nothing at unit 2", 1 | 128, {{1, 0, 0, 1 | 128, 'a', MBRB_SIGNED}, {1, 0, 0, 1 | 128, 'b', MBRB_NOTED}}},
+        {"a held and b noted by unit 2, nothing with us", 1 | 128, {{2, 0, 0, 1 | 128, 'a', MBRB_SIGNED}, {2, 0, 0, 1 | 128, 'b', MBRB_NOTED}}},
+        {"unit 7 by a, held by unit 2, and b, noted by us", 1 | 128,
+         {{2, 0, 0, 1 | 128, 'a', MBRB_SIGNED}, {1, 0, 0, 1, 'a', MBRB_SIGNED}, {1, 0, 0, 1 | 128, 'b', MBRB_NOTED}}},
+        {"not unit 7, which has signed b alone, held by unit 2 and noted by us", 1,
+         {{2, 0, 0, 1 | 128, 'b', MBRB_SIGNED}, {1, 0, 0, 1, 'a', MBRB_SIGNED}, {1, 0, 0, 1 | 128, 'b', MBRB_NOTED}}},
+        {"unit 7 by what is held, unit 6 by what is noted", 1 | 64 | 128,
+         {{2, 0, 0, 1 | 128, 'a', MBRB_SIGNED}, {2, 0, 0, 1 | 64, 'b', MBRB_NOTED},
+          {1, 0, 0, 1 | 128, 'b', MBRB_SIGNED}, {1, 0, 0, 1 | 64, 'a', MBRB_NOTED}}},
+        {"not unit 2, which has signed a alone, noted since b is delivered", 1,
+         {{2, 0, 0, 1, 'a', MBRB_SIGNED}, {2, 0, 0, 1 | 16 | 32 | 64 | 128, 'b', MBRB_DELIVERED},
+          {1, 0, 0, 1 | 16 | 32 | 64 | 128, 'b', MBRB_DELIVERED}}},
+    };
+
+    puts("the records of unit 1 beside those of unit 2, of 8 units: who has signed two bodies in one slot");
+    for (size_t i = 0; i < sizeof cases / sizeof cases[0]; i++) {
+        play_both(cases[i].heard);
+        told_named(cases[i].of, cases[i].named, named_on(7));
+    }
+}
+
+/* Two bodies of unit 0 that differ in one bit, for each of the 128: one at each unit, and both with us. */
+static void names_by_a_bit(void)
+{
+    static const struct heard both[] = {{2, 0, 0, 1, 'a', MBRB_SIGNED}, {1, 0, 0, 1, 'a', MBRB_SIGNED}, {0}};
+    uint64_t across = UINT64_MAX, within = UINT64_MAX;
+
+    for (int bit = 0; bit < 8 * MBRB_BODY_SIZE; bit++) {
+        const uint8_t changed = (uint8_t)('a' ^ 1u << bit % 8);
+        play_both(both);
+        bring(1, 'a');
+        bundle[MBRB_BODY_AT + bit / 8] = changed;
+        if (take_by(site_of(1), sizeof bundle, SITE_RECORDS, sizeof out) != MBRB_NOTED)
+            within = 0;
+        within &= named_on(7);
+        play_both(both);
+        seconds[MBRB_RECORD_AT(0, 0) + MBRB_BODY_AT + bit / 8] = changed;
+        across &= named_on(7);
+    }
+    told_named("a held by us, and a with one bit changed by unit 2, for each of the 128 bits", 1, across);
+    told_named("a held by us, and a with one bit changed noted, for each of the 128 bits", 1, within);
+}
+
+/* Unit 0 is sound: it announced a on day 7, and b on day 8, each under number 0. No call can know. */
+static void names_of_two_days(void)
+{
+    static const struct heard heard[] = {{2, 0, 0, 1, 'b', MBRB_SIGNED}, {1, 0, 0, 1, 'a', MBRB_SIGNED}, {0}};
+
+    play_both(heard);
+    told_named("a of day 7 beside b of day 8, although unit 0 is sound", 1, named_on(7));
+    told_named("the same with day 8 in the table", 1, named_on(8));
+}
+
+/* A length is wrong by one byte, and records by their very last byte: that of an empty record, which would name nobody. */
+static void refused_recordings(void)
+{
+    static const struct heard nothing[] = {{0}}, held[] = {{2, 0, 0, 1, 'a', MBRB_SIGNED}, {1, 0, 0, 1, 'a', MBRB_SIGNED}, {0}},
+                              delivered[] = {{2, 0, 0, 1 | 16 | 32 | 64, 'a', MBRB_DELIVERED}, {0}};
+    const struct table ours = site_of(1);
+    const size_t all = SITE_RECORDS, last = SITE_RECORDS - 1;
+
+    puts("what refuses first: the table with either number, length and records of ours, those of unit 2, and then that both are ours");
+    play_both(nothing);
+    records[last] = seconds[last] = 1;
+    TOLD(MBRB_BAD_TABLE, check_by(site_of(SITE_UNITS), 1, last, last));
+    TOLD(MBRB_BAD_TABLE, check_by(ours, SITE_UNITS, last, last));
+    TOLD(MBRB_RECORDS_LENGTH, check_by(ours, 1, last, all));
+    TOLD(MBRB_UNSOUND_RECORD, check_by(ours, 1, all, last));
+    records[last] = 0;
+    TOLD(MBRB_RECORDS_LENGTH, check_by(ours, 1, all, last));
+    TOLD(MBRB_UNSOUND_RECORD, check_by(ours, 1, all, all));
+    seconds[last] = 0;
+    TOLD(MBRB_SAME_UNIT, check_by(ours, 1, all, all));
+    TOLD(MBRB_COMPARED, check_by(ours, 2, all, all));
+    puts("each for its own unit: as they are, with the numbers exchanged, ours as unit 3's, unit 2's as unit 3's");
+    play_both(held);
+    TOLD(MBRB_COMPARED, check_by(ours, 2, all, all));
+    TOLD(MBRB_UNSOUND_RECORD, check_by(site_of(2), 1, all, all));
+    TOLD(MBRB_UNSOUND_RECORD, check_by(site_of(3), 2, all, all));
+    TOLD(MBRB_UNSOUND_RECORD, check_by(ours, 3, all, all));
+    puts("by the quorum: five have signed what unit 2 has delivered, and the quorum is 5, then 6");
+    play_both(delivered);
+    TOLD(MBRB_COMPARED, check_by(site(5), 2, all, all));
+    TOLD(MBRB_UNSOUND_RECORD, check_by(site(6), 2, all, all));
+}
+
 int main(void)
 {
     refused_from_the_input();
@@ -646,5 +860,9 @@ int main(void)
     counted_by_the_quorum();
     setpoints();
     setpoints_by_the_quorum();
+    names();
+    names_by_a_bit();
+    names_of_two_days();
+    refused_recordings();
     return differ;
 }
