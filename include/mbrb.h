@@ -223,8 +223,8 @@
  * two sendings in a slot, only announced bodies in a sound sender's slots, and delivery as in section 7; that 21 does
  * not come there, nor 23 where the bits are true; that previews between the calls change nothing of it; that what
  * mbrb_setpoint pools of a sound sender is something that this sender announced; that signers in a record are worth
- * what section 12 says; and that the records of two sound units are compared, and name no sound unit (section 14).
- * docs/CLAIMS.md has each with its file.
+ * what section 12 says; and that the records of two sound units, copied at one moment of the list or at two, are
+ * compared and name no sound unit (section 14). docs/CLAIMS.md has each with its file.
  *
  * Argued and not proved: that a host which keeps to sections 3 to 7 and 12 to 14 is such a list. The lists know no
  * restart. A call whose change was lost before anything of it was sent or acted on is left out of the list: its answer
@@ -232,10 +232,8 @@
  * (Announcing looks at several slots, so an announcement is saved before the next call.) With a lost MBRB_KEPT all of
  * agreement stands, and in delivery that bundle counts as one that has not reached this unit, until it comes again.
  * With a lost MBRB_NOTED agreement and delivery stand as if it were not lost: what a record notes changes none of them.
- * tests/power_cuts tries it on examples/host. What is proved of comparing is of the records at the end of a list, those
- * of both units at one moment. Copies of two moments do as well: the bit of a sound unit in the older copy stands
- * beside a body that it had signed by then, and in that slot it signs no other one later. Assumed: the Rattle kit, its
- * logic with its checker, front end and back end, and the host's memset.
+ * tests/power_cuts tries it on examples/host. Assumed: the Rattle kit, its logic with its checker, front end and back
+ * end, and the host's memset.
  *
  *
  * 10. What it costs

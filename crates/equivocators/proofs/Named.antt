@@ -4,16 +4,16 @@ use mathlib.Core.Path.{_≡_, refl, sym, ap, ap₂, _∙_, subst}
 use mathlib.Core.Logic.{_⊎_, inl, inr}
 use mathlib.Core.Bool.{Bool, true, false, not, _&&_, true≢false, and-eq-true-iff}
 use mathlib.Core.List.{List, [], _∷_, _++_}
-use Prim.Native.Nat.{ℕ, _<_, _≤_}
+use Prim.Native.Nat.{ℕ, _<_, _^_}
 use native.Mathlib.Nat.{le-of-eq}
 use native.Mathlib.Omega.{arith}
 use lib.ListN.{length}
-use borrow.Author.Tests.{eqb-true, not-true, not-false}
+use borrow.Author.Tests.{eqb-true, eqb-false, not-true, not-false}
 use Rattle.octets.specs.Octets.{same}
 use Rattle.octets.proofs.Same.{same-says, same-self}
 use Rattle.signers.specs.Signers.{member, within}
 use Rattle.signers.specs.Words.{wordOf}
-use Rattle.signers.proofs.Members.{nobody, within-lt, within-says, says-within, word-within, member-word}
+use Rattle.signers.proofs.Members.{nobody, same-members, within-lt, within-says, says-within, word-within, member-word}
 use Rattle.refusal.specs.Outcome.{done}
 use Rattle.refusal.proofs.Reasons.{done-clear}
 use Rattle.config.specs.declared.Config.{Config}
@@ -32,9 +32,10 @@ use Rattle.calls.specs.Algorithm.{recordOf}
 use Rattle.calls.proofs.Records.{recordAt-length}
 use Rattle.equivocators.specs.Entries.{Entry, notedEntry, entries, signedBoth, signedTwo}
 use Rattle.equivocators.specs.Equivocators.{someBelow, slotEntries, equivocates, equivocatorsReasons, equivocators}
-use Rattle.equivocators.specs.Named.{Stands, Equivocated, NamedExactly, NamedAreNodes}
+use Rattle.equivocators.specs.Named.{Stands, Equivocated, NamedExactly, NamedAreNodes, SenderNamed, EitherOrder}
 use Rattle.equivocators.proofs.Entries.{Each, Among, two-says, some-two}
 use Rattle.equivocators.proofs.Below.{some-below, below-some}
+use Rattle.equivocators.proofs.Refusals.{names}
 
 -- ---- a record's entries, and what stands beside its payloads
 
@@ -63,10 +64,15 @@ among-second : (a : Entry) (xs ys : List Entry) → Among a ys → Among a (xs +
 among-second a [] ys there = there
 among-second a (x ∷ xs) ys there = inr (among-second a xs ys there)
 
--- the signers beside a payload of a well-formed record are nodes
-beside-known : (n sender q own : ℕ) (r : Record) (signers : ℕ) (payload : List ℕ) → WellFormed n sender q own r → Beside r signers payload → within signers n ≡ true
-beside-known n sender q own r signers payload fine (inl (some, s, p)) = subst (λ (x : ℕ). within x n ≡ true) s (well-formed-bundled n sender q own r some fine .known)
-beside-known n sender q own r signers payload fine (inr is) = subst (NoteWellFormed n sender (payloadOf r)) is (well-formed-note n sender q own r fine) .0 .known
+-- the signers beside a payload of a well-formed record are nodes, and the sender is one of them
+beside-known : (n sender q own : ℕ) (r : Record) (signers : ℕ) (payload : List ℕ) → WellFormed n sender q own r → Beside r signers payload
+    → (within signers n ≡ true) × (member signers sender ≡ true)
+beside-known n sender q own r signers payload fine (inl (some, s, p)) =
+    let bundled = well-formed-bundled n sender q own r some fine in
+    subst (λ (x : ℕ). (within x n ≡ true) × (member x sender ≡ true)) s (bundled .known, bundled .authentic)
+beside-known n sender q own r signers payload fine (inr is) =
+    let bundled = subst (NoteWellFormed n sender (payloadOf r)) is (well-formed-note n sender q own r fine) .0 in
+    (bundled .known, bundled .authentic)
 
 -- the record of a slot, where all of the buffer are well-formed
 record-formed : (config : Config) (records : List ℕ) → good config ≡ true → length records ≡ recordsSize config → allWellFormed config records ≡ true
@@ -88,6 +94,7 @@ record Compares (config : Config) (other : ℕ) (first second : List ℕ) (word 
   formed : allWellFormed config first ≡ true
   other-sized : length second ≡ recordsSize (withOwn config other)
   other-formed : allWellFormed (withOwn config other) second ≡ true
+  apart : config .own ≡ other → ⊥
   is-word : wordOf (equivocates config other first second) 64 ≡ word
 
 compares : (config : Config) (other : ℕ) (first second : List ℕ) (word : ℕ) → equivocators config other first second ≡ done word → Compares config other first second word
@@ -101,12 +108,14 @@ compares config other first second word e =
       formed = not-false _ (clear .1 .1 .1 .0);
       other-sized = eqb-true _ _ (not-false _ (clear .1 .1 .1 .1 .0));
       other-formed = not-false _ (clear .1 .1 .1 .1 .1 .0);
+      apart = eqb-false _ _ (clear .1 .1 .1 .1 .1 .1 .0);
       is-word = is;
     }
 
 module _ (config : Config) (other : ℕ) (first second : List ℕ) (word : ℕ) (c : Compares config other first second word) (node : ℕ) where
-  -- every signer is a node
-  stands-known : (sender seq signers : ℕ) (payload : List ℕ) → sender < config .n → seq < slots → Stands config other first second sender seq signers payload → within signers (config .n) ≡ true
+  -- every signer is a node, and the sender is among them
+  stands-known : (sender seq signers : ℕ) (payload : List ℕ) → sender < config .n → seq < slots → Stands config other first second sender seq signers payload
+      → (within signers (config .n) ≡ true) × (member signers sender ≡ true)
   unfolding withOwn slotOfDay
   stands-known sender seq signers payload s k (inl here) =
       beside-known (config .n) sender (quorum config) (config .own) (recordOf config (slotOfDay config sender seq) first) signers payload
@@ -162,7 +171,7 @@ module _ (config : Config) (other : ℕ) (first second : List ℕ) (word : ℕ) 
   unfolding equivocates slotEntries signedBoth
   says-named q =
       let most = good-says config (c .good-here) .most in
-      let known = within-says (q .signers) (config .n) node (stands-known (q .sender) (q .seq) (q .signers) (q .payload) (q .known) (q .below) (q .stands)) (q .signed) in
+      let known = within-says (q .signers) (config .n) node (stands-known (q .sender) (q .seq) (q .signers) (q .payload) (q .known) (q .below) (q .stands) .0) (q .signed) in
       let a : Entry = record { signers = q .signers; payload = q .payload } in
       let b : Entry = record { signers = q .others; payload = q .otherPayload } in
       named-word (omega arith)
@@ -199,4 +208,77 @@ named-are-nodes config other first second word e =
     (λ node m.
     let q = named-says config other first second word c node m in
     within-says (q .signers) (config .n) node
-    (stands-known config other first second word c node (q .sender) (q .seq) (q .signers) (q .payload) (q .known) (q .below) (q .stands)) (q .signed))
+    (stands-known config other first second word c node (q .sender) (q .seq) (q .signers) (q .payload) (q .known) (q .below) (q .stands) .0) (q .signed))
+
+pub sender-named : SenderNamed
+sender-named config other first second word e sender seq signers others payload otherPayload s k stands otherStands differ =
+    let c = compares config other first second word e in
+    says-named config other first second word c sender
+    (record {
+      sender = sender;
+      seq = seq;
+      known = s;
+      below = k;
+      signers = signers;
+      others = others;
+      payload = payload;
+      otherPayload = otherPayload;
+      stands = stands;
+      otherStands = otherStands;
+      signed = stands-known config other first second word c sender sender seq signers payload s k stands .1;
+      otherSigned = stands-known config other first second word c sender sender seq others otherPayload s k otherStands .1;
+      differ = differ;
+    })
+
+-- ---- the other way round
+
+-- what stands in one of two buffers stands in one of them
+exchanged : (config : Config) (other : ℕ) (first second : List ℕ) (sender seq signers : ℕ) (payload : List ℕ)
+    → Stands (withOwn config other) (config .own) second first sender seq signers payload → Stands config other first second sender seq signers payload
+unfolding withOwn slotOfDay
+exchanged config other first second sender seq signers payload (inl there) = inr there
+exchanged config other first second sender seq signers payload (inr here) = inl here
+
+two-exchanged : (config : Config) (other : ℕ) (first second : List ℕ) (node : ℕ)
+    → Equivocated (withOwn config other) (config .own) second first node → Equivocated config other first second node
+unfolding withOwn
+two-exchanged config other first second node q =
+    record {
+      sender = q .sender;
+      seq = q .seq;
+      known = q .known;
+      below = q .below;
+      signers = q .signers;
+      others = q .others;
+      payload = q .payload;
+      otherPayload = q .otherPayload;
+      stands = exchanged config other first second (q .sender) (q .seq) (q .signers) (q .payload) (q .stands);
+      otherStands = exchanged config other first second (q .sender) (q .seq) (q .others) (q .otherPayload) (q .otherStands);
+      signed = q .signed;
+      otherSigned = q .otherSigned;
+      differ = q .differ;
+    }
+
+pub either-order : EitherOrder
+unfolding withOwn
+either-order config other first second word e =
+    let c = compares config other first second word e in
+    let back : ℕ = wordOf (equivocates (withOwn config other) (config .own) second first) 64 in
+    let is : equivocators (withOwn config other) (config .own) second first ≡ done back =
+    names (withOwn config other) (config .own) second first (c .good-there) (c .good-here) (c .other-sized) (c .other-formed) (c .sized) (c .formed) (λ q. c .apart (sym q)) in
+    is ∙ ap done (same-members back word 64 (within-lt back 64 (word-within (equivocates (withOwn config other) (config .own) second first) 64)) (fits c) (λ node l. same-bit back is node))
+  where
+    fits : Compares config other first second word → word < 2 ^ 64
+    fits c = within-lt word 64 (ap (λ (w : ℕ). within w 64) (sym (c .is-word)) ∙ word-within (equivocates config other first second) 64)
+
+    same-bit : (back : ℕ) → equivocators (withOwn config other) (config .own) second first ≡ done back → (node : ℕ) → member back node ≡ member word node
+    same-bit back is node =
+        go (member back node) refl (member word node) refl
+      where
+        go : (a : Bool) → member back node ≡ a → (b : Bool) → member word node ≡ b → a ≡ b
+        go true x true y = refl
+        go true x false y =
+            absurd (true≢false (sym (named-exactly config other first second word e node .1 (two-exchanged config other first second node (named-exactly (withOwn config other) (config .own) second first back is node .0 x))) ∙ y))
+        go false x true y =
+            absurd (true≢false (sym (named-exactly (withOwn config other) (config .own) second first back is node .1 (two-exchanged (withOwn config other) (config .own) second first node (named-exactly config other first second word e node .0 y))) ∙ x))
+        go false x false y = refl

@@ -1,5 +1,6 @@
--- R19.2, read back: a node has its bit exactly if, in some slot, it is a signer beside two different payloads, anywhere in the two buffers; and every node that is
--- named is one of the n (R19.5). They are proved in proofs/Named.antt.
+-- R19.2, read back: a node has its bit exactly if, in some slot, it is a signer beside two different payloads, anywhere in the two buffers. Every node that is named is
+-- one of the n (R19.5); where a slot has two payloads its sender is named (R19.10); and which buffer comes first does not matter (R19.11). They are proved in
+-- proofs/Named.antt.
 -- Assumes nothing.
 use mathlib.Core.Path.{_≡_}
 use mathlib.Core.Logic.{_⊎_}
@@ -47,3 +48,17 @@ NamedExactly =
 abbrev pub NamedAreNodes : Type 0
 NamedAreNodes =
     (config : Config) (other : ℕ) (first second : List ℕ) (word : ℕ) → equivocators config other first second ≡ done word → within word (config .n) ≡ true
+
+-- R19.10: no payload stands in a well-formed record without its sender's bit.
+abbrev pub SenderNamed : Type 0
+SenderNamed =
+    (config : Config) (other : ℕ) (first second : List ℕ) (word : ℕ) → equivocators config other first second ≡ done word
+    → (sender seq signers others : ℕ) (payload otherPayload : List ℕ) → sender < config .n → seq < slots
+    → Stands config other first second sender seq signers payload → Stands config other first second sender seq others otherPayload → (payload ≡ otherPayload → ⊥)
+    → member word sender ≡ true
+
+-- R19.11: the second node's records first, and the first node's second.
+abbrev pub EitherOrder : Type 0
+EitherOrder =
+    (config : Config) (other : ℕ) (first second : List ℕ) (word : ℕ) → equivocators config other first second ≡ done word
+    → equivocators (withOwn config other) (config .own) second first ≡ done word
