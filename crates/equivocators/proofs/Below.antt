@@ -1,6 +1,6 @@
 -- A test that passes for some number below n; and a test in two halves that passes for each.
 -- Assumes nothing.
-use mathlib.Core.Path.{_≡_, refl, sym, ap₂, _∙_}
+use mathlib.Core.Path.{_≡_, refl, sym}
 use mathlib.Core.Bool.{Bool, true, false, _&&_, _||_, or-true, true≢false}
 use Prim.Native.Nat.{ℕ, zero, suc, _+_, _<_}
 use native.Mathlib.Nat.{le-step, lt-suc-self}
@@ -10,7 +10,7 @@ use lib.Arith.{lt-of-le-ne}
 use lib.Dec.{eqb}
 use borrow.Author.Tests.{eqb-true, eqb-false}
 use Rattle.signers.specs.Sets.{NodeSet}
-use Rattle.signers.specs.Signers.{member, union}
+use Rattle.signers.specs.Signers.{union}
 use Rattle.protocol.specs.Trace.{each}
 use Rattle.equivocators.specs.Equivocators.{someBelow}
 use Rattle.equivocators.specs.Inner.{Names}

@@ -1,13 +1,12 @@
 -- The word of those who are named, put together slot by slot, which costs less to compute than a test for each of 64 nodes. For records that are written out.
 -- Assumes nothing.
-use mathlib.Core.Path.{_≡_, refl, sym, ap, ap₂, _∙_, subst}
+use mathlib.Core.Path.{_≡_, refl, sym, ap, ap₂, _∙_}
 use mathlib.Core.Bool.{Bool, true, false, cond, _||_}
-use mathlib.Core.List.{List, [], _∷_, _++_}
+use mathlib.Core.List.{List, [], _∷_}
 use Prim.Native.Nat.{ℕ, zero, suc, _<_, _^_}
 use native.Mathlib.Nat.{le-of-eq}
 use Rattle.octets.specs.Octets.{same}
 use Rattle.signers.specs.Signers.{member, union, common}
-use Rattle.signers.specs.Words.{wordOf}
 use Rattle.signers.proofs.Members.{nobody, member-union, word-same}
 use Rattle.refusal.specs.Outcome.{unless}
 use Rattle.config.specs.declared.Config.{Config}

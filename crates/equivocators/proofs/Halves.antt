@@ -1,19 +1,19 @@
 -- A well-formed record as a program has it: its two halves are the entries of the record on values, and their payloads differ where both have signers.
 -- Assumes nothing.
 use mathlib.Core.Path.{_≡_, refl, sym, ap, _∙_, subst}
-use mathlib.Core.Logic.{_⊎_, inl, inr}
+use mathlib.Core.Logic.{inl, inr}
 use mathlib.Core.Bool.{Bool, true, false, true≢false, and-eq-true-iff}
 use Prim.Native.Nat.{ℕ}
 use native.Mathlib.Omega.{arith}
 use lib.Dec.{eqb}
 use borrow.Author.Tests.{eqb-true, eqb-false}
-use Rattle.octets.specs.Octets.{blank, same}
+use Rattle.octets.specs.Octets.{blank}
 use Rattle.payload.specs.Payload as payload
 use Rattle.block.specs.Block as block
 use Rattle.block.proofs.Laws as block-laws
 use Rattle.config.specs.declared.Config.{Config}
 use Rattle.protocol.specs.Update as protocol
-use Rattle.protocol.specs.Update.{Nothing, Noted, Empty, Held, Delivered, signersOf, payloadOf, noteOf}
+use Rattle.protocol.specs.Update.{signersOf, payloadOf, noteOf}
 use Rattle.protocol.proofs.WellFormed.{NoteWellFormed}
 use Rattle.note.specs.declared.Note.{Note}
 use Rattle.note.specs.Note as note
@@ -24,7 +24,7 @@ use Rattle.record.specs.Record.{decoded, wellFormed, bytes}
 use Rattle.record.specs.Inner.{heldBlock, HasState}
 use Rattle.record.proofs.Words.{Fits, blank-halves, blank-signers, empty-words, held-words, delivered-words}
 use Rattle.record.proofs.WellFormed.{noteFine, well-formed-empty, malformed-note, well-formed-has-state}
-use Rattle.equivocators.specs.Entries.{Entry, notedEntry}
+use Rattle.equivocators.specs.Entries.{notedEntry}
 use Rattle.equivocators.specs.Inner.{entryOf, Distinct}
 use Rattle.equivocators.proofs.Entries.{Alike}
 

@@ -1,8 +1,8 @@
 -- Who is named is who stands beside two payloads: what specs/Named.antt claims. The tests that were passed say that all records are well-formed, so that every signer
 -- is a node. Assumes nothing.
 use mathlib.Core.Path.{_≡_, refl, sym, ap, ap₂, _∙_, subst}
-use mathlib.Core.Logic.{_⊎_, inl, inr}
-use mathlib.Core.Bool.{Bool, true, false, not, _&&_, true≢false, and-eq-true-iff}
+use mathlib.Core.Logic.{inl, inr}
+use mathlib.Core.Bool.{Bool, true, false, not, true≢false, and-eq-true-iff}
 use mathlib.Core.List.{List, [], _∷_, _++_}
 use Prim.Native.Nat.{ℕ, _<_, _^_}
 use native.Mathlib.Nat.{le-of-eq}
@@ -17,23 +17,21 @@ use Rattle.signers.proofs.Members.{nobody, same-members, within-lt, within-says
 use Rattle.refusal.specs.Outcome.{done}
 use Rattle.refusal.proofs.Reasons.{done-clear}
 use Rattle.config.specs.declared.Config.{Config}
-use Rattle.config.specs.declared.Slot.{Slot}
-use Rattle.config.specs.Config.{good, slots, slotOfDay, withOwn, inRange, quorum, recordSize, recordsSize}
+use Rattle.config.specs.Config.{good, slots, slotOfDay, withOwn, quorum, recordsSize}
 use Rattle.config.proofs.Laws.{good-says, in-range}
-use Rattle.protocol.specs.Update.{Note, Nothing, Noted, Record, Empty, Held, Delivered, isEmpty, signersOf, payloadOf, noteOf}
+use Rattle.protocol.specs.Update.{Note, Nothing, Noted, Record, Empty, Held, Delivered, signersOf, payloadOf, noteOf}
 use Rattle.protocol.specs.Notes.{Beside}
 use Rattle.protocol.proofs.WellFormed.{NoteWellFormed, WellFormed, well-formed-bundled, well-formed-note}
 use Rattle.protocol.proofs.ComputedTests.{each-says}
-use Rattle.record.specs.Record.{decoded, wellFormed}
 use Rattle.record.proofs.Encoding.{decoded-well-formed}
 use Rattle.calls.specs.Records.{recordAt}
 use Rattle.calls.specs.WellFormed.{slotWellFormed, senderWellFormed, allWellFormed}
 use Rattle.calls.specs.Algorithm.{recordOf}
 use Rattle.calls.proofs.Records.{recordAt-length}
 use Rattle.equivocators.specs.Entries.{Entry, notedEntry, entries, signedBoth, signedTwo}
-use Rattle.equivocators.specs.Equivocators.{someBelow, slotEntries, equivocates, equivocatorsReasons, equivocators}
+use Rattle.equivocators.specs.Equivocators.{slotEntries, equivocates, equivocatorsReasons, equivocators}
 use Rattle.equivocators.specs.Named.{Stands, Equivocated, NamedExactly, NamedAreNodes, SenderNamed, EitherOrder}
-use Rattle.equivocators.proofs.Entries.{Each, Among, two-says, some-two}
+use Rattle.equivocators.proofs.Entries.{Among, two-says, some-two}
 use Rattle.equivocators.proofs.Below.{some-below, below-some}
 use Rattle.equivocators.proofs.Refusals.{names}
 

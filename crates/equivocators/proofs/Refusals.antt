@@ -1,10 +1,9 @@
 -- The refusals of the call, one after the other, and what it gives where none applies.
 -- Assumes nothing.
 use mathlib.Core.Path.{_≡_, refl, sym, ap, _∙_, fun-ext}
-use mathlib.Core.Bool.{Bool, true, false, _&&_, true≢false, and-false}
+use mathlib.Core.Bool.{Bool, true, false, _&&_, true≢false}
 use mathlib.Core.List.{List}
 use Prim.Native.Nat.{ℕ}
-use lib.Dec.{eqb}
 use lib.ListN.{length}
 use borrow.Author.Tests.{eq-eqb, ne-eqb}
 use Rattle.signers.specs.Words.{wordOf}
@@ -15,7 +14,7 @@ use Rattle.config.specs.Config.{good, slots, withOwn, recordsSize}
 use Rattle.protocol.specs.Trace.{each}
 use Rattle.calls.specs.WellFormed.{slotWellFormed, senderWellFormed, allWellFormed}
 use Rattle.equivocators.specs.Equivocators.{equivocates, equivocatorsReasons, equivocators}
-use Rattle.equivocators.specs.Inner.{slotFormed, senderFormed, allFormed}
+use Rattle.equivocators.specs.Inner.{allFormed}
 use Rattle.equivocators.proofs.Below.{each-both}
 
 module _ (config : Config) (other : ℕ) (first second : List ℕ) where

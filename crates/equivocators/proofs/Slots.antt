@@ -1,8 +1,8 @@
 -- The two records of a slot: where they lie in the buffers, and who is named by them.
 -- Assumes nothing.
-use mathlib.Core.Path.{_≡_, refl, sym, ap, ap₂, _∙_}
-use mathlib.Core.Bool.{Bool, true}
-use mathlib.Core.List.{List, [], _∷_, _++_}
+use mathlib.Core.Path.{_≡_, sym, ap, ap₂, _∙_}
+use mathlib.Core.Bool.{true}
+use mathlib.Core.List.{List, _++_}
 use Prim.Native.Nat.{ℕ, _+_, _≤_, _<_}
 use native.Mathlib.Omega.{arith}
 use lib.ListN.{length}
@@ -11,7 +11,6 @@ use Rattle.config.specs.declared.Config.{Config}
 use Rattle.config.specs.declared.Slot.{Slot}
 use Rattle.config.specs.Config.{good, slots, slotOfDay, withOwn, inRange, slotPlace, place, recordSize, recordsSize}
 use Rattle.config.proofs.Laws.{in-range, place-slot}
-use Rattle.protocol.specs.Update as protocol
 use Rattle.record.specs.declared.Record.{Record}
 use Rattle.record.specs.Record.{decoded, wellFormed, bytes}
 use Rattle.record.proofs.Words.{Fits}
@@ -21,7 +20,7 @@ use Rattle.calls.proofs.Records.{place-fits}
 use Rattle.calls.proofs.RecordBounds.{record-at}
 use Rattle.equivocators.specs.Entries.{entries, signedTwo}
 use Rattle.equivocators.specs.Equivocators.{slotEntries}
-use Rattle.equivocators.specs.Inner.{entryOf, amongRecords, slotNames}
+use Rattle.equivocators.specs.Inner.{amongRecords, slotNames}
 use Rattle.equivocators.proofs.Entries.{four-alike}
 use Rattle.equivocators.proofs.Halves.{halves-alike}
 

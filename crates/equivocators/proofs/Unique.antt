@@ -1,7 +1,5 @@
 -- A number or a word is one answer's, so that the contract leaves one answer. Assumes nothing.
-use mathlib.Core.Path.{_≡_, refl, sym, ap}
-use Prim.Native.Nat.{ℕ}
-use Rattle.refusal.specs.Outcome.{Outcome, refused, done}
+use mathlib.Core.Path.{_≡_, sym, ap}
 use Rattle.refusal.specs.Refusal.{numberOf}
 use Rattle.refusal.proofs.Reasons.{refused-not-done}
 use Rattle.refusal.proofs.Unique.{number-one, refused-number}

@@ -10,9 +10,9 @@ ghost use mathlib.Core.Bool.{true};
 ghost use Prim.Native.Nat.{_+_, _≤_, _<_};
 ghost use lib.ListN.{length};
 ghost use Rattle.octets.specs.Octets.{part};
-ghost use Rattle.payload.specs.Payload.{bytes as payloadBytes};
 ghost use Rattle.config.specs.Config.{good, slots, recordSize, recordsSize, withOwn};
 ghost use Rattle.record.specs.Record.{bytes};
+ghost use Rattle.record.proofs.Words.{Fits};
 ghost use Rattle.equivocators.specs.Equivocators.{equivocators as equivocatorsOf, namingOf};
 ghost use Rattle.equivocators.specs.Inner.{Distinct, Names, signedBothBy, amongRecords, Compared, slotFormed, slotNames, senderFormed, senderNames, allFormed, allNames};
 
@@ -154,10 +154,11 @@ fn compare_slot(
     }
 }
 
-// The record at a place.
+// The record at a place, in words that fit.
 fn get(start: usize, records: &[u8]) -> Record
     requires { ⌜ start + recordSize ≤ length (now records) ⌝ }
     ensures { λ r. ⌜ bytes r ≡ part start recordSize (now (records .entry)) ⌝ }
+    ensures { λ r. ⌜ Fits r ⌝ }
 {
     record::load(&records[start..start + config::RECORD_SIZE])
 }

@@ -2,7 +2,6 @@
 -- Assumes nothing.
 use mathlib.Core.Path.{_≡_, refl, _∙_}
 use mathlib.Core.Bool.{true}
-use lib.Bits.{bitAnd, bitOr}
 use lib.Dec.{lit<}
 use Rattle.protocol.specs.Trace as trace
 use Rattle.protocol.specs.Trace.{each}
@@ -10,7 +9,6 @@ use Rattle.calls.specs.WellFormed.{slotWellFormed, senderWellFormed, allWellFor
 use Rattle.refusal.specs.Outcome.{done}
 use Rattle.system.specs.Demand3.{configAt, buffer, inSlot, correct, opens, sends, sendsIn, signs}
 use Rattle.system.specs.Example.{sixNodes, six, first, second, third, firstSlot, gets, twoPayloads, faultySlot, correctSlot, opened, list}
-use Rattle.system.specs.SlotBySlot.{oneNode}
 use Rattle.system.specs.Tight.{room, receiving, fourNodes, four, twoNodes, pair, oneFaulty, forged, leftOver}
 use Rattle.system.proofs.Computing.{calls-compute}
 use Rattle.system.proofs.ComputedTests.{given-before, unforged-now, unforged-test, lawful-test, lawful-says}

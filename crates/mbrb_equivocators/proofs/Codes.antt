@@ -1,12 +1,10 @@
 -- Laws of the codes: a refusal is one of four, and none of them is 0. Assumes nothing.
 use mathlib.Core.Path.{_≡_, refl, sym, ap, _∙_, subst}
 use mathlib.Core.Bool.{true, true≢false}
-use mathlib.Core.List.{List}
 use Prim.Native.Nat.{ℕ}
 use Rattle.refusal.specs.Outcome.{Outcome, refused, done}
 use Rattle.refusal.proofs.Reasons.{Comes, unless-comes}
 use Rattle.signers.specs.Words.{wordOf}
-use Rattle.config.specs.declared.Config.{Config}
 use Rattle.mbrb.specs.Code.{listed}
 use Rattle.equivocators.specs.Equivocators.{equivocates, equivocatorsReasons, equivocators}
 use Rattle.mbrb_equivocators.specs.Code.{namedWord, checkCode, equivocatorsRefusals, RefusalsListed, WordNeedsNoCheck}

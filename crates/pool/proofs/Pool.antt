@@ -1,7 +1,7 @@
 -- What is pooled, by the records: the setpoint that a record holds, one record more of a sender, one sender more; and the refusals of the call.
 -- Assumes nothing.
 use mathlib.Core.Path.{_≡_, refl, sym, ap, _∙_}
-use mathlib.Core.Bool.{Bool, true, false, cond, true≢false}
+use mathlib.Core.Bool.{Bool, true, false, cond}
 use mathlib.Core.List.{List, [], _∷_, _++_}
 use Prim.Native.Nat.{ℕ, zero, suc, _+_, _*_, _≤_, _<_}
 use native.Mathlib.Nat.{le-step, lt-suc-self}
@@ -18,9 +18,7 @@ use Rattle.payload.specs.Payload.{payloadSize}
 use Rattle.config.specs.declared.Config.{Config}
 use Rattle.config.specs.declared.Slot.{Slot}
 use Rattle.config.specs.Config.{good, slots, slotOfDay, place, recordSize, recordsSize}
-use Rattle.protocol.specs.Trace.{each}
 use Rattle.protocol.specs.Update.{isDelivered}
-use Rattle.protocol.proofs.ComputedTests.{each-says}
 use Rattle.record.specs.Record.{decoded, payloadAt, payloadField}
 use Rattle.calls.specs.Records.{recordAt}
 use Rattle.calls.specs.WellFormed.{slotWellFormed, allWellFormed}

@@ -8,7 +8,6 @@ use mathlib.Core.List.{List}
 use Prim.Native.Nat.{ℕ, _<_}
 use lib.Dec.{lit<}
 use Rattle.octets.proofs.Same.{same-self}
-use Rattle.refusal.specs.Outcome.{refused}
 use Rattle.config.specs.declared.Config.{Config}
 use Rattle.config.specs.declared.Slot.{Slot}
 use Rattle.config.specs.Config.{withOwn, good, inRange, slotOfDay}

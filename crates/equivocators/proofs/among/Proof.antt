@@ -7,8 +7,6 @@ use Rattle.equivocators.proofs.Entries.{both-distinct, four, joined}
 use borrow.Author.Needs.{needs}
 use Rattle.equivocators.proofs.among.Statement.{statement}
 use Rattle.equivocators.proofs.among.Tie as tie
-use Rattle.equivocators.proofs.among.Reads as reads
-use Rattle.equivocators.proofs.among.Lts as lts
 use Rattle.equivocators.proofs.signed_both.Reads as signed-both-reads
 use Rattle.signers.proofs.common.Reads as common-reads
 use Rattle.signers.proofs.union.Reads as union-reads

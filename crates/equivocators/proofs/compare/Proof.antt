@@ -1,13 +1,11 @@
 -- `compare` meets its contract: the records of the senders below `sender` are well-formed, and the word has who is named by them. Assumes nothing.
 use mathlib.Core.Path.{_≡_, refl, sym, _∙_}
 use mathlib.Core.Bool.{true, true≢false}
-use mathlib.Core.List.{List}
-use Prim.Native.Nat.{ℕ, _+_, _-_, _≤_, _<_}
+use Prim.Native.Nat.{_-_, _≤_}
 use native.Mathlib.Omega.{arith}
 use borrow.Author.Needs.{needs}
 use borrow.Author.Tests.{not-true, not-false}
 use Rattle.signers.proofs.Members.{nobody}
-use Rattle.config.specs.declared.Config.{Config}
 use Rattle.protocol.specs.Trace.{each}
 use Rattle.protocol.proofs.ComputedTests.{each-next, each-fails}
 use Rattle.equivocators.specs.Equivocators.{someBelow, equivocates}

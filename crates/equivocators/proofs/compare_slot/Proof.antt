@@ -1,6 +1,6 @@
 -- `compare_slot` meets its contract: the records at the slot's place are those of the slot, and where both are well-formed their halves name who is named.
 -- Assumes nothing.
-use mathlib.Core.Path.{_≡_, refl, sym, ap, ap₂, _∙_}
+use mathlib.Core.Path.{_≡_, sym, ap, ap₂, _∙_}
 use mathlib.Core.Bool.{Bool, true, false, _&&_, and-false, true≢false}
 use mathlib.Core.List.{List}
 use Prim.Native.Nat.{ℕ, _+_, _≤_, _<_}
@@ -10,10 +10,9 @@ use borrow.Author.Needs.{needs}
 use borrow.Author.Tests.{not-true, not-false}
 use Rattle.octets.specs.Octets.{part}
 use Rattle.config.specs.declared.Config.{Config}
-use Rattle.config.specs.Config.{good, slotOfDay, slotPlace, withOwn, recordSize, recordsSize}
+use Rattle.config.specs.Config.{slotOfDay, slotPlace, withOwn, recordSize, recordsSize}
 use Rattle.record.specs.declared.Record.{Record}
 use Rattle.record.specs.Record.{bytes, wellFormed}
-use Rattle.record.proofs.Words.{Fits}
 use Rattle.calls.specs.Records.{recordAt}
 use Rattle.calls.specs.WellFormed.{slotWellFormed}
 use Rattle.equivocators.proofs.Halves.{distinct}
@@ -85,7 +84,7 @@ module _ (c : tie.After-well-formed) where
   here = c .before .get .result
 
   here-loaded : bytes here ≡ part (slotPlace (slotOfDay (config placed) (sender placed) (seq placed))) recordSize (first placed)
-  here-loaded = c .before .get .ensures ∙ ap (λ (at : ℕ). part at recordSize (first placed)) (place-known placed)
+  here-loaded = c .before .get .ensures .0 ∙ ap (λ (at : ℕ). part at recordSize (first placed)) (place-known placed)
 
   here-there : bytes here ≡ recordAt (config placed) (slotOfDay (config placed) (sender placed) (seq placed)) (first placed)
   here-there =
@@ -97,17 +96,6 @@ module _ (c : tie.After-well-formed) where
       c .well-formed .ensures
       ∙ formed-there (config placed) (first placed) (start placed .pre .0) (start placed .pre .1 .1 .0) (sender placed) (seq placed)
       (start placed .pre .1 .1 .1 .1 .0) (start placed .pre .1 .1 .1 .1 .1) here here-loaded
-
-  here-fits : Fits here
-  here-fits =
-      let fit = c .before .get .ok in
-      let noted = fit .1 .1 .1 .1 .1 .0 in
-      record {
-        head-fits = omega arith;
-        signers-fits = omega arith;
-        payload-fits = record { high-fits = omega arith; low-fits = omega arith };
-        note-fits = record { signers-fits = omega arith; zero-fits = omega arith; payload-fits = record { high-fits = omega arith; low-fits = omega arith } };
-      }
 
 -- and the second
 module _ (c : tie.After-well-formed2) where
@@ -125,7 +113,7 @@ module _ (c : tie.After-well-formed2) where
 
   there-loaded : bytes there ≡ part (slotPlace (slotOfDay (withOwn (config at) (other at)) (sender at) (seq at))) recordSize (second at)
   unfolding slotOfDay withOwn
-  there-loaded = c .before .before .get2 .ensures ∙ ap (λ (p : ℕ). part p recordSize (second at)) (place-known at)
+  there-loaded = c .before .before .get2 .ensures .0 ∙ ap (λ (p : ℕ). part p recordSize (second at)) (place-known at)
 
   there-there : bytes there ≡ recordAt (withOwn (config at) (other at)) (slotOfDay (withOwn (config at) (other at)) (sender at) (seq at)) (second at)
   there-there =
@@ -140,17 +128,6 @@ module _ (c : tie.After-well-formed2) where
       there-is
       ∙ formed-there (withOwn (config at) (other at)) (second at) (start at .pre .1 .0) (other-size at) (sender at) (seq at)
       (other-sender at) (start at .pre .1 .1 .1 .1 .1) there there-loaded
-
-  there-fits : Fits there
-  there-fits =
-      let fit = c .before .before .get2 .ok in
-      let noted = fit .1 .1 .1 .1 .1 .0 in
-      record {
-        head-fits = omega arith;
-        signers-fits = omega arith;
-        payload-fits = record { high-fits = omega arith; low-fits = omega arith };
-        note-fits = record { signers-fits = omega arith; zero-fits = omega arith; payload-fits = record { high-fits = omega arith; low-fits = omega arith } };
-      }
 
 -- ---- the needs
 
@@ -198,8 +175,8 @@ among-requires : tie.Need-among-requires
 among-requires c κs =
     let there-at = c .before in
     let here-at = tested there-at in (
-      distinct (here here-at) (here-fits here-at) (config (at there-at)) (sender (at there-at)) (sym (here-at .well-formed .ensures) ∙ not-false _ (there-at .before .before .before .if1 .left)),
-      distinct (there there-at) (there-fits there-at) (withOwn (config (at there-at)) (other (at there-at))) (sender (at there-at)) (sym (there-is there-at) ∙ not-false _ (c .if2 .left)),
+      distinct (here here-at) (here-at .before .get .ensures .1) (config (at there-at)) (sender (at there-at)) (sym (here-at .well-formed .ensures) ∙ not-false _ (there-at .before .before .before .if1 .left)),
+      distinct (there there-at) (there-at .before .before .get2 .ensures .1) (withOwn (config (at there-at)) (other (at there-at))) (sender (at there-at)) (sym (there-is there-at) ∙ not-false _ (c .if2 .left)),
     )
 
 returns-3 : tie.Need-returns-3
@@ -214,7 +191,7 @@ returns-3 c =
       formedness = sym (ap₂ _&&_ (sym (here-formed here-at) ∙ one) (sym (there-formed there-at) ∙ two));
       naming = λ e node.
           c .among .ensures node
-          ∙ names-there (config p) (other p) (first p) (second p) (sender p) (seq p) (here here-at) (there there-at) (here-fits here-at) (there-fits there-at)
+          ∙ names-there (config p) (other p) (first p) (second p) (sender p) (seq p) (here here-at) (there there-at) (here-at .before .get .ensures .1) (there-at .before .before .get2 .ensures .1)
           (here-there here-at) (there-there there-at) (sym (here-at .well-formed .ensures) ∙ one) (sym (there-is there-at) ∙ two) node;
     }
 

@@ -1,5 +1,5 @@
 -- `equivocators` meets its contract: each return follows from the tests passed before it. Assumes nothing.
-use mathlib.Core.Path.{_≡_, refl, sym, ap, _∙_, subst}
+use mathlib.Core.Path.{_≡_, refl, sym, ap, _∙_}
 use mathlib.Core.Bool.{true, and-eq-true-iff}
 use mathlib.Core.List.{List}
 use Prim.Native.Nat.{ℕ}
@@ -8,14 +8,12 @@ use native.Mathlib.Omega.{arith}
 use lib.ListN.{length}
 use borrow.Author.Needs.{needs}
 use borrow.Author.Tests.{not-true, not-false}
-use Rattle.signers.specs.Words.{wordOf}
 use Rattle.signers.proofs.Members.{word-same}
 use Rattle.refusal.specs.Outcome.{done}
 use Rattle.config.specs.declared.Config.{Config}
 use Rattle.config.specs.Config.{good, withOwn, recordsSize}
 use Rattle.calls.specs.WellFormed.{allWellFormed}
 use Rattle.equivocators.specs.Equivocators.{equivocates}
-use Rattle.equivocators.specs.Inner.{allFormed}
 use Rattle.equivocators.proofs.Refusals.{both-formed, own-again, self-formed, refused-config, refused-other, refused-size, refused-formed, refused-other-size, refused-either, refused-same, names}
 use Rattle.equivocators.proofs.equivocators.Statement.{statement}
 use Rattle.equivocators.proofs.equivocators.Tie as tie

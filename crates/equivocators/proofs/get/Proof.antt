@@ -1,5 +1,6 @@
--- `get` meets its contract: a part of the buffer, as long as a record, is loaded as it is. Assumes nothing.
+-- `get` meets its contract: a part of the buffer, as long as a record, is loaded as it is, into words. Assumes nothing.
 use mathlib.Core.Path.{_∙_}
+use native.Mathlib.Omega.{arith}
 use Rattle.calls.proofs.RecordBounds.{loaded-part}
 use borrow.Author.Needs.{needs}
 use Rattle.equivocators.proofs.get.Statement.{statement}
@@ -22,7 +23,16 @@ load-requires : tie.Need-load-requires
 load-requires c κs = search needs
 
 returns : tie.Need-returns
-returns c = c .load .ensures ∙ loaded-part (c .before .before .before .args .records .now) (c .before .before .before .args .start) (c .before .before .before .pre)
+returns c =
+    let start = c .before .before .before in (
+      c .load .ensures ∙ loaded-part (start .args .records .now) (start .args .start) (start .pre),
+      record {
+        head-fits = omega arith;
+        signers-fits = omega arith;
+        payload-fits = record { high-fits = omega arith; low-fits = omega arith };
+        note-fits = record { signers-fits = omega arith; zero-fits = omega arith; payload-fits = record { high-fits = omega arith; low-fits = omega arith } };
+      },
+    )
 
 pub get-spec : {M : Type 1} → statement M
 get-spec =
