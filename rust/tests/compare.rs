@@ -12,6 +12,10 @@ mod arena;
 mod comparison;
 #[path = "compare/damage.rs"]
 mod damage;
+#[path = "compare/lent.rs"]
+mod lent;
+#[path = "compare/misjudged.rs"]
+mod misjudged;
 #[path = "compare/node.rs"]
 mod node;
 #[path = "compare/notes.rs"]
