@@ -194,7 +194,7 @@ impl Slot<'_> {
         record
     }
 
-    fn without_note(&self, random: &mut Random, state: u8) -> RecordBytes {
+    pub fn without_note(&self, random: &mut Random, state: u8) -> RecordBytes {
         let Config { n, own, .. } = *self.config;
         let (mask, quorum, sender) = (self.config.mask(), self.config.quorum(), bit(self.sender));
         let signers = match state {
