@@ -15,9 +15,10 @@ struct Naming {
     refusal: u32,
 }
 
-/// By every two different nodes that were called, in both orders; in larger systems, where there are many, by each and the next one.
-fn namings(run: &Run) -> impl Iterator<Item = Naming> + '_ {
-    let called = Vec::from_iter(nodes_of(run.called()));
+/// By every two different nodes that were called, in both orders; in larger systems, where there are many, by each and the next one. The
+/// second one's recording is of `other`: the same list, but where a test shows that it has to be.
+fn namings<'a>(run: &'a Run, other: &'a Run) -> impl Iterator<Item = Naming> + 'a {
+    let called = Vec::from_iter(nodes_of(run.called() & other.called()));
     let count = called.len();
     let apart = match run.system.n {
         ..=10 => count,
@@ -27,14 +28,14 @@ fn namings(run: &Run) -> impl Iterator<Item = Naming> + '_ {
         (0..count).flat_map(move |at| (1..apart).map(move |more| [at, (at + more) % count]));
     pairs.map(move |pair| {
         let by = pair.map(|at| called[at]);
-        let (word, refusal) = run.equivocators(by[0], by[1]);
+        let (word, refusal) = run.equivocators(by[0], other, by[1]);
         Naming { by, word, refusal }
     })
 }
 
-/// Whether the recordings of two nodes name a correct one.
-pub fn correct_is_named(run: &Run) -> bool {
-    namings(run).any(|naming| naming.word & run.system.correct() != 0)
+/// Whether the recordings of two nodes name a correct one, the second one's being of `other`.
+pub fn correct_is_named(run: &Run, other: &Run) -> bool {
+    namings(run, other).any(|naming| naming.word & run.system.correct() != 0)
 }
 
 /// What was seen at the ends of lists.
@@ -62,7 +63,7 @@ impl Named {
         let alone = nodes_of(run.called()).map(|node| (node, run.equivocators_alone(node).0));
         let alone = BTreeMap::from_iter(alone);
         let mut any = false;
-        for Naming { by, word, refusal } in namings(run) {
+        for Naming { by, word, refusal } in namings(run, run) {
             let count = word.count_ones();
             if refusal != 0 || word & correct != 0 || count > most {
                 let named = Vec::from_iter(nodes_of(word));

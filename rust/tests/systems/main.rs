@@ -4,8 +4,8 @@
 //! checks see violations where the quorum is one less than the least or one more than the most, and where one correct node more than d
 //! misses each sending. On a twentieth as many lists the nodes announce setpoints, and what each makes of them at the end is checked.
 //! What the records hold at the end of each list is checked too: whose bits stand beside a payload, noted ones included, whose slots have
-//! a note, and whom the recordings of two nodes name side by side. Those checks fail where signatures are forged, and where bundles are
-//! taken wrongly.
+//! a note, and whom the recordings of two nodes name side by side. Those checks fail where signatures are forged, where bundles are taken
+//! wrongly, and where two recordings are not of one list.
 //!
 //! MBRB_LISTS sets how many lists there are, MBRB_SEED the first one's seed.
 

@@ -91,10 +91,10 @@ impl Run {
         self.opened
     }
 
-    /// Who signed two payloads in one slot, by the recordings of two nodes that were called: the word, and the refusal or 0. It is no call
-    /// of the list.
-    pub fn equivocators(&self, first: u8, second: u8) -> (u64, u32) {
-        let records = &self.records[usize::from(second)];
+    /// Who signed two payloads in one slot, by the recordings of two nodes that were called: the word, and the refusal or 0. The second
+    /// one's may be of another list. It is no call of either.
+    pub fn equivocators(&self, first: u8, other: &Run, second: u8) -> (u64, u32) {
+        let records = &other.records[usize::from(second)];
         self.equivocators_beside(first, second, records)
     }
 

@@ -1,9 +1,9 @@
 //! The checks of the records at the end of a list are seen to fail, of each node's and of two side by side: where faulty nodes forge
-//! signatures, and where a node notes wrongly.
+//! signatures, where a node notes wrongly, and where two recordings are not of one list.
 
 use crate::equivocators::correct_is_named;
 use crate::first_seed;
-use crate::lists::{played, Rules, LAWFUL};
+use crate::lists::{played, played_again, Rules, LAWFUL};
 use crate::notes::{self, Wrong, NOTED_SIGNERS, SIGNERS};
 use crate::run::Receive;
 use crate::trace::{bit, word, DELIVERED, NOTED};
@@ -17,7 +17,7 @@ fn count_wrong(rules: Rules) -> ([u64; Wrong::ALL.len()], u64) {
         for (wrong, ..) in notes::wrong(&run) {
             counts[wrong as usize] += 1;
         }
-        naming += u64::from(correct_is_named(&run));
+        naming += u64::from(correct_is_named(&run, &run));
     }
     (counts, naming)
 }
@@ -107,4 +107,15 @@ fn wrong_notes_are_seen_in_the_records() {
         println!("{name}: {counts:?} of 10000 lists, a correct node named in {naming}");
         assert!(counts[wrong as usize] >= 100 && naming >= 100, "{name}");
     }
+}
+
+#[test]
+fn recordings_of_two_lists_name_correct_nodes() {
+    let names = |seed: &u64| {
+        let run = played(LAWFUL, *seed);
+        correct_is_named(&run, &played_again(&run, LAWFUL, !seed))
+    };
+    let naming = (first_seed()..).take(10_000).filter(names).count();
+    println!("recordings of two lists, a correct node named: {naming} of 10000");
+    assert!(naming >= 100, "{naming}");
 }
