@@ -67,6 +67,32 @@ extern "C" {
         records: *const u8,
         records_len: usize,
     ) -> u32;
+    fn mbrb_equivocators(
+        n: u8,
+        t: u8,
+        d: u8,
+        own: u8,
+        day: u32,
+        quorum: u32,
+        other: u8,
+        first: *const u8,
+        first_len: usize,
+        second: *const u8,
+        second_len: usize,
+    ) -> u64;
+    fn mbrb_check_equivocators(
+        n: u8,
+        t: u8,
+        d: u8,
+        own: u8,
+        day: u32,
+        quorum: u32,
+        other: u8,
+        first: *const u8,
+        first_len: usize,
+        second: *const u8,
+        second_len: usize,
+    ) -> u32;
 }
 
 /// Opens a day: the host's code of the answer.
@@ -168,6 +194,48 @@ pub fn setpoint(config: &Config, records: &[u8]) -> u32 {
             config.q,
             records.as_ptr(),
             records.len(),
+        )
+    }
+}
+
+/// The nodes that have signed two payloads in one slot, from two nodes' records: a word of signer bits, 0 where it is refused.
+#[inline]
+pub fn equivocators(config: &Config, other: u8, first: &[u8], second: &[u8]) -> u64 {
+    // SAFETY: as for `preview`. Both slices are shared, so they may overlap.
+    unsafe {
+        mbrb_equivocators(
+            config.n,
+            config.t,
+            config.d,
+            config.own,
+            config.day,
+            config.q,
+            other,
+            first.as_ptr(),
+            first.len(),
+            second.as_ptr(),
+            second.len(),
+        )
+    }
+}
+
+/// Why `equivocators` refuses: the refusal's number, or 0.
+#[inline]
+pub fn check_equivocators(config: &Config, other: u8, first: &[u8], second: &[u8]) -> u32 {
+    // SAFETY: as for `equivocators`.
+    unsafe {
+        mbrb_check_equivocators(
+            config.n,
+            config.t,
+            config.d,
+            config.own,
+            config.day,
+            config.q,
+            other,
+            first.as_ptr(),
+            first.len(),
+            second.as_ptr(),
+            second.len(),
         )
     }
 }

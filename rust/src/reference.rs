@@ -1,5 +1,5 @@
-//! Opening, broadcast, receive and its preview, and the setpoint of many, written from the papers alone, to be compared with the proved
-//! functions.
+//! Opening, broadcast, receive and its preview, the setpoint of many, and who signed two payloads, written from the papers alone, to be
+//! compared with the proved functions.
 //!
 //! Every check comes before the first store, so a refusal changes no byte.
 
@@ -27,6 +27,7 @@ pub enum Refusal {
     OtherPayloadWithoutQuorum = 24,
     NoEmptyRecord = 25,
     TooFewSetpoints = 27,
+    SameNode = 28,
 }
 
 impl Refusal {
@@ -161,6 +162,14 @@ impl SignedPayload {
     fn with_signers(self, further: u64) -> SignedPayload {
         let signers = self.signers | further;
         SignedPayload { signers, ..self }
+    }
+
+    /// The nodes that have signed both, if the payloads differ.
+    fn equivocators(&self, other: &SignedPayload) -> u64 {
+        if self.payload == other.payload {
+            return 0;
+        }
+        self.signers & other.signers
     }
 }
 
@@ -342,6 +351,13 @@ impl Record {
     }
 }
 
+/// The sixteen records of each sender.
+fn by_sender(records: &[u8]) -> &[[RecordBytes; SEQS as usize]] {
+    let (slots, _) = records.as_chunks();
+    let (senders, _) = slots.as_chunks();
+    senders
+}
+
 /// The first empty of our own records, with its number. A malformed one before it refuses; those behind it do not matter.
 fn first_empty<'a>(
     config: &Config,
@@ -492,10 +508,8 @@ pub fn setpoint(config: &Config, records: &[u8]) -> Result<i16, Refusal> {
     require(config.good(), Refusal::ConfigNotGood)?;
     let complete = records.len() == config.records_length();
     require(complete, Refusal::RecordsLength)?;
-    let (slots, _) = records.as_chunks();
-    let (senders, _) = slots.as_chunks();
     let (mut pooled, mut count) = ([0; 64], 0);
-    for (sender, records) in (0..config.n).zip(senders) {
+    for (sender, records) in (0..config.n).zip(by_sender(records)) {
         if let Some(value) = last_setpoint(config, sender, records)? {
             pooled[count] = value;
             count += 1;
@@ -506,6 +520,66 @@ pub fn setpoint(config: &Config, records: &[u8]) -> Result<i16, Refusal> {
     let pooled = &mut pooled[..count];
     pooled.sort_unstable();
     Ok(pooled[(count - 1) / 2])
+}
+
+/// The nodes that have signed two payloads of a slot, as far as the records of two nodes tell.
+#[inline(always)]
+fn equivocators_in_slot(one: &Record, other: &Record) -> u64 {
+    let payloads = one.first.equivocators(&other.first);
+    // So it mostly is.
+    let nothing_noted = one.noted.signers | other.noted.signers == 0;
+    if nothing_noted {
+        return payloads;
+    }
+    // What is noted in a record differs from its payload, and without signers it names nobody.
+    let [within_one, within_other] =
+        [one, other].map(|record| record.first.signers & record.noted.signers);
+    payloads
+        | within_one
+        | within_other
+        | one.first.equivocators(&other.noted)
+        | one.noted.equivocators(&other.first)
+        | one.noted.equivocators(&other.noted)
+}
+
+/// The nodes that have signed two payloads in one slot, as a word of signer bits, from the records of two nodes: ours, and those of the
+/// node `other`. The rules: two units' recordings side by side.
+// Inlined, so that who asks for the refusal alone does not compare payloads.
+#[inline(always)]
+pub fn equivocators(
+    config: &Config,
+    other: u8,
+    first: &[u8],
+    second: &[u8],
+) -> Result<u64, Refusal> {
+    let other = &Config {
+        own: other,
+        ..*config
+    };
+    require(config.good() && other.good(), Refusal::ConfigNotGood)?;
+    let complete = |records: &[u8]| records.len() == config.records_length();
+    require(complete(first), Refusal::RecordsLength)?;
+    let senders = (0..config.n).zip(by_sender(first));
+    if !complete(second) {
+        // The first buffer's records come before the second's length.
+        for (sender, records) in senders {
+            for bytes in records {
+                Record::read(config, sender, bytes)?;
+            }
+        }
+        return Err(Refusal::RecordsLength);
+    }
+    // Whichever of them is malformed, the refusal is the same: so they are read side by side.
+    let mut named = 0;
+    for ((sender, records), others) in senders.zip(by_sender(second)) {
+        for (bytes, other_bytes) in records.iter().zip(others) {
+            let record = Record::read(config, sender, bytes)?;
+            let other_record = Record::read(other, sender, other_bytes)?;
+            named |= equivocators_in_slot(&record, &other_record);
+        }
+    }
+    require(config.own != other.own, Refusal::SameNode)?;
+    Ok(named)
 }
 
 /// `open` for a C host: the refusal's number, or 0.
@@ -538,6 +612,19 @@ pub fn preview_code(config: &Config, bundle: &[u8], records: &[u8], out: &mut [u
 pub fn setpoint_code(config: &Config, records: &[u8]) -> u32 {
     match setpoint(config, records) {
         Ok(value) => 1 << 16 | u32::from(value.cast_unsigned()),
+        Err(refusal) => refusal.number(),
+    }
+}
+
+/// `equivocators` for a C host: the word, or 0 where it is refused. The word may be any, so the refusal is asked for apart.
+pub fn equivocators_word(config: &Config, other: u8, first: &[u8], second: &[u8]) -> u64 {
+    equivocators(config, other, first, second).unwrap_or(0)
+}
+
+/// The refusal of `equivocators` for a C host: its number, or 0.
+pub fn equivocators_refusal(config: &Config, other: u8, first: &[u8], second: &[u8]) -> u32 {
+    match equivocators(config, other, first, second) {
+        Ok(_) => 0,
         Err(refusal) => refusal.number(),
     }
 }
@@ -990,6 +1077,110 @@ mod tests {
                 code
             );
         }
+    }
+
+    /// What nodes 0 and 1 of 4, 1, 0 tell whose records of sender 3, number 15 are these.
+    fn named(first: RecordBytes, second: RecordBytes) -> Result<u64, Refusal> {
+        let [first, second] = [first, second].map(|record| {
+            let mut records = [EMPTY; 64];
+            records[63] = record;
+            records
+        });
+        let [first, second] = [&first, &second].map(|records| records.as_flattened());
+        equivocators(&config(4, 1, 0, 0), 1, first, second)
+    }
+
+    #[test]
+    fn who_signed_two_payloads_is_named() {
+        let [held, other] = [record(1, 0b1001, PAYLOAD), record(1, 0b1010, OTHER)];
+        let delivered = record(2, 0b1110, PAYLOAD);
+        let (noted, other_noted) = (noting(held, 0b1100, OTHER), noting(other, 0b1100, PAYLOAD));
+        // The records of both, and who is named.
+        let rows = [
+            (EMPTY, EMPTY, 0),
+            (held, EMPTY, 0),
+            (held, record(1, 0b1010, PAYLOAD), 0),
+            (delivered, delivered, 0),
+            (held, other, 0b1000),
+            (delivered, other, 0b1010),
+            // Within one recording, the other's being empty or agreeing.
+            (noted, EMPTY, 0b1000),
+            (EMPTY, other_noted, 0b1000),
+            (noting(delivered, 0b1100, OTHER), delivered, 0b1100),
+            (noted, noting(delivered, 0b1001, OTHER), 0b1101),
+            // A payload that is held here is noted there.
+            (noted, other_noted, 0b1100),
+            (noted, noting(other, 0b1100, THIRD), 0b1100),
+            (noting(held, 0b1010, OTHER), delivered, 0b1010),
+            (
+                record(1, 0b1011, PAYLOAD),
+                noting(delivered, 0b1010, OTHER),
+                0b1010,
+            ),
+            (
+                noted,
+                noting(record(1, 0b1010, PAYLOAD), 0b1110, THIRD),
+                0b1110,
+            ),
+        ];
+        for (first, second, word) in rows {
+            assert_eq!(named(first, second), Ok(word), "{first:?} {second:?}");
+        }
+    }
+
+    #[test]
+    fn payloads_of_different_slots_are_not_compared() {
+        let (config, mut records) = (config(4, 1, 0, 0), [[EMPTY; 64]; 2]);
+        records[0][0] = record(2, 0b1111, PAYLOAD);
+        records[0][1] = record(2, 0b1111, OTHER);
+        records[1][16] = record(2, 0b1111, THIRD);
+        let word = |records: &[[RecordBytes; 64]; 2]| {
+            let [first, second] = [0, 1].map(|at| records[at].as_flattened());
+            equivocators_word(&config, 3, first, second)
+        };
+        assert_eq!(word(&records), 0);
+        // Those of each slot are named.
+        records[1][1] = record(1, 0b1001, PAYLOAD);
+        records[0][16] = record(1, 0b0011, PAYLOAD);
+        assert_eq!(word(&records), 0b1011);
+    }
+
+    #[test]
+    fn all_of_64_nodes_may_be_named() {
+        let config = config(64, 21, 0, 63);
+        let mut records = [[EMPTY; 1024]; 2];
+        records[0][1023] = record(2, u64::MAX, PAYLOAD);
+        records[1][1023] = record(2, u64::MAX, OTHER);
+        let [first, second] = [0, 1].map(|at| records[at].as_flattened());
+        assert_eq!(equivocators(&config, 0, first, second), Ok(u64::MAX));
+    }
+
+    #[test]
+    fn two_recordings_are_refused_in_order() {
+        let good = config(4, 1, 0, 1);
+        let bad = config(5, 1, 1, 1);
+        let refused = |config: &Config, other, first: &[RecordBytes], second: &[RecordBytes]| {
+            let [first, second] = [first, second].map(|records| records.as_flattened());
+            assert_eq!(equivocators_word(config, other, first, second), 0);
+            equivocators_refusal(config, other, first, second)
+        };
+        // Held by node 1, and by node 2; somebody is named.
+        let (mut ours, mut theirs) = ([EMPTY; 64], [EMPTY; 64]);
+        (ours[5], theirs[5]) = (record(1, 0b0011, PAYLOAD), record(1, 0b0101, OTHER));
+        assert_eq!(refused(&good, 2, &ours, &[EMPTY; 64]), 0);
+        // Defects add up from the last reason to the first.
+        assert_eq!(refused(&good, 1, &ours, &ours), 28);
+        assert_eq!(refused(&good, 1, &ours, &theirs), 21);
+        assert_eq!(refused(&good, 2, &ours, &ours), 21);
+        assert_eq!(refused(&good, 1, &ours, &theirs[1..]), 20);
+        assert_eq!(refused(&good, 1, &theirs, &theirs[1..]), 21);
+        assert_eq!(refused(&good, 2, &theirs, &theirs), 21);
+        assert_eq!(refused(&good, 1, &theirs[1..], &theirs[1..]), 20);
+        assert_eq!(refused(&good, 4, &theirs[1..], &theirs[1..]), 1);
+        assert_eq!(refused(&bad, 1, &theirs[1..], &theirs[1..]), 1);
+        let own = Config { own: 4, ..good };
+        assert_eq!(refused(&own, 2, &ours, &theirs), 1);
+        assert_eq!(refused(&own, 4, &ours, &theirs), 1);
     }
 
     #[test]

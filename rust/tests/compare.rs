@@ -1,7 +1,8 @@
 //! The exported functions beside the reference: code, records and outgoing bytes of each call, on calls made from a seed. A preview is
 //! compared besides with taking on a copy of the records, by each of the two, and the records have to stay. One setpoint from many is about
-//! whole buffers of records, and is compared on such, apart from the other calls. Announcing is compared once more on buffers in which its
-//! search for our next number ends at each possible place, and taking and its preview once more on every record of small tables.
+//! whole buffers of records, and who signed two payloads about those of two nodes: both are compared on such, apart from the other calls.
+//! Announcing is compared once more on buffers in which its search for our next number ends at each possible place, taking and its preview
+//! once more on every record of small tables, and who signed two payloads on every two of them.
 //!
 //! `MBRB_CALLS` sets how many calls, `MBRB_SEED` another seed, both decimal. With fewer than three hundred thousand calls some code,
 //! record, quorum or n may be too rare, and the test fails for that.
@@ -12,6 +13,12 @@ mod arena;
 mod comparison;
 #[path = "compare/damage.rs"]
 mod damage;
+#[path = "compare/equivocators/mod.rs"]
+mod equivocators;
+#[path = "compare/lent.rs"]
+mod lent;
+#[path = "compare/misjudged.rs"]
+mod misjudged;
 #[path = "compare/node.rs"]
 mod node;
 #[path = "compare/notes.rs"]

@@ -15,6 +15,8 @@ const DAY: u32 = 7;
 const CALLS: usize = 1024;
 /// How many bytes the buffers of such a row have together, whichever n.
 const BUFFERS: usize = 512 << 10;
+/// The number of the second node, where a call is about the records of two.
+const OTHER: u8 = 2;
 const ROUNDS: usize = 401;
 
 #[inline(always)]
@@ -98,6 +100,42 @@ fn reference_setpoint(n: u8, t: u8, d: u8, own: u8, day: u32, q: u32, records: &
     reference::setpoint_code(&config, records)
 }
 
+#[no_mangle]
+#[inline(never)]
+#[allow(clippy::too_many_arguments)]
+fn reference_equivocators(
+    n: u8,
+    t: u8,
+    d: u8,
+    own: u8,
+    day: u32,
+    q: u32,
+    other: u8,
+    first: &[u8],
+    second: &[u8],
+) -> u64 {
+    let config = config_from(n, t, d, own, day, q);
+    reference::equivocators_word(&config, other, first, second)
+}
+
+#[no_mangle]
+#[inline(never)]
+#[allow(clippy::too_many_arguments)]
+fn reference_check_equivocators(
+    n: u8,
+    t: u8,
+    d: u8,
+    own: u8,
+    day: u32,
+    q: u32,
+    other: u8,
+    first: &[u8],
+    second: &[u8],
+) -> u32 {
+    let config = config_from(n, t, d, own, day, q);
+    reference::equivocators_refusal(&config, other, first, second)
+}
+
 #[derive(Clone, Copy)]
 enum Side {
     Proved,
@@ -107,6 +145,7 @@ enum Side {
 /// A call that is ready to be made, on the buffer of this number.
 struct Ready {
     config: Config,
+    /// a payload, a bundle, or the second node's records
     input: Vec<u8>,
     buffer: usize,
 }
@@ -118,15 +157,17 @@ enum Kind {
     Receive,
     Preview,
     Setpoint,
+    Equivocators,
+    CheckEquivocators,
 }
 
-/// Calls of one kind that all have the same code, but for setpoints, and the buffers as they find them.
+/// Calls of one kind that all have the same answer, but for setpoints, and the buffers as they find them.
 struct Row {
     name: String,
     kind: Kind,
     n: u8,
-    /// The least code where they differ: setpoints are above every refusal.
-    code: u32,
+    /// The code, or the word of the nodes named. Of setpoints, which are above every refusal, it is the least.
+    answer: u64,
     calls: Vec<Ready>,
     buffers: Vec<Vec<u8>>,
 }
@@ -137,10 +178,12 @@ enum Found {
     Empty,
     Held(u32),
     Delivered(u32),
-    /// Another payload is held than the bundle's.
+    /// Another payload is held than the one that comes.
     HeldOther(u32),
-    /// The same, and the bundle's payload is noted, with its sender's signature alone.
+    /// The same, and the one that comes is noted, with its sender's signature alone.
     Noted(u32),
+    /// Another payload is delivered, and that one noted likewise.
+    DeliveredNoted(u32),
 }
 
 /// With the least quorum.
@@ -177,13 +220,14 @@ fn record(config: &Config, sender: u8, found: Found, payload: &[u8; 16]) -> Vec<
         Found::Held(count) => (1, count, payload),
         Found::Delivered(count) => (2, count, payload),
         Found::HeldOther(count) | Found::Noted(count) => (1, count, &other),
+        Found::DeliveredNoted(count) => (2, count, &other),
     };
     let set = signers(config, sender, true, count);
     let mut record = vec![0; RECORD_LENGTH];
     record[0] = state;
     record[8..16].copy_from_slice(&set.to_be_bytes());
     record[16..32].copy_from_slice(held);
-    if let Found::Noted(_) = found {
+    if let Found::Noted(_) | Found::DeliveredNoted(_) = found {
         record[32..40].copy_from_slice(&(1_u64 << sender).to_be_bytes());
         record[48..].copy_from_slice(payload);
     }
@@ -218,7 +262,7 @@ fn bundles(kind: Kind, name: String, n: u8, found: Found, brought: u32, code: u3
         name,
         kind,
         n,
-        code,
+        answer: code.into(),
         calls,
         buffers,
     }
@@ -254,7 +298,7 @@ fn broadcasts(name: &str, n: u8, used: u8, found: Found) -> Row {
         name: name.to_string(),
         kind: Kind::Broadcast,
         n,
-        code,
+        answer: code.into(),
         calls,
         buffers,
     }
@@ -293,8 +337,39 @@ fn setpoints(name: &str, n: u8) -> Row {
     once_each(name, Kind::Setpoint, config, 1 << 16, buffers)
 }
 
+/// Who signed two payloads, or the refusal alone, on the records of two nodes. Each record is delivered, with the same payload by both;
+/// where `noted`, both have noted another by its sender alone, so that each sender is named.
+fn recordings(kind: Kind, name: &str, n: u8, noted: bool) -> Row {
+    let mut random = Random::new(5);
+    let config = config_of(n, 1);
+    let found = match noted {
+        true => Found::DeliveredNoted(config.quorum()),
+        false => Found::Delivered(config.quorum()),
+    };
+    let mut pair = |_| {
+        let (mut first, mut second) = (Vec::new(), Vec::new());
+        for sender in (0..n).flat_map(|sender| [sender; SEQS as usize]) {
+            let payload = payload(&mut random);
+            first.extend(record(&config, sender, found, &payload));
+            second.extend(record(&config_of(n, OTHER), sender, found, &payload));
+        }
+        (first, second)
+    };
+    let pairs = BUFFERS / config.records_length() / 2;
+    let (buffers, seconds): (Vec<_>, Vec<_>) = (0..pairs).map(&mut pair).unzip();
+    let named = match kind {
+        Kind::Equivocators if noted => config.mask(),
+        _ => 0,
+    };
+    let mut row = once_each(name, kind, config, named, buffers);
+    for (call, second) in row.calls.iter_mut().zip(seconds) {
+        call.input = second;
+    }
+    row
+}
+
 /// A call on each of the buffers, with nothing else for input.
-fn once_each(name: &str, kind: Kind, config: Config, code: u32, buffers: Vec<Vec<u8>>) -> Row {
+fn once_each(name: &str, kind: Kind, config: Config, answer: u64, buffers: Vec<Vec<u8>>) -> Row {
     let calls = (0..buffers.len())
         .map(|buffer| Ready {
             config,
@@ -306,7 +381,7 @@ fn once_each(name: &str, kind: Kind, config: Config, code: u32, buffers: Vec<Vec
         name: name.to_string(),
         kind,
         n: config.n,
-        code,
+        answer,
         calls,
         buffers,
     }
@@ -338,11 +413,19 @@ fn rows() -> Vec<Row> {
             broadcasts("announcing: number 15", n, 15, Found::Held(1)),
             broadcasts("announcing: 25", n, SEQS, delivered),
         ];
+        let (named, check) = (Kind::Equivocators, Kind::CheckEquivocators);
+        let side_by_side = [
+            recordings(named, "equivocators: none", n, false),
+            recordings(named, "equivocators: noted", n, true),
+            recordings(check, "their check: none", n, false),
+            recordings(check, "their check: noted", n, true),
+        ];
         std::iter::once(openings("opening", n))
             .chain(answers(Kind::Receive, "taking", n))
             .chain(answers(Kind::Preview, "preview", n))
             .chain(announcing)
             .chain([setpoints("setpoint", n)])
+            .chain(side_by_side)
     };
     [4, 64].into_iter().flat_map(rows_of).collect()
 }
@@ -354,7 +437,7 @@ impl Row {
         side: Side,
         buffers: &mut [Vec<u8>],
         out: &mut [u8],
-        mut answered: impl FnMut(u32),
+        mut answered: impl FnMut(u64),
     ) {
         // One loop for each function, so that each is called directly.
         macro_rules! each {
@@ -365,7 +448,7 @@ impl Row {
                     buffer,
                 } in &self.calls
                 {
-                    answered($call(config, input, &mut buffers[*buffer], out));
+                    answered($call(config, input, &mut buffers[*buffer], out).into());
                 }
             };
         }
@@ -381,11 +464,24 @@ impl Row {
                 |c: &Config, _: &[u8], records: &mut [u8], _: &mut [u8]| $call(c, records)
             };
         }
+        macro_rules! with_second {
+            ($call:expr) => {
+                |c: &Config, second: &[u8], first: &mut [u8], _: &mut [u8]| {
+                    $call(c, OTHER, first, second)
+                }
+            };
+        }
         let open_by_numbers = |c: &Config, records: &mut [u8]| {
             reference_open(c.n, c.t, c.d, c.own, c.day, c.q, records)
         };
         let setpoint_by_numbers = |c: &Config, records: &mut [u8]| {
             reference_setpoint(c.n, c.t, c.d, c.own, c.day, c.q, records)
+        };
+        let equivocators_by_numbers = |c: &Config, other, first: &[u8], second: &[u8]| {
+            reference_equivocators(c.n, c.t, c.d, c.own, c.day, c.q, other, first, second)
+        };
+        let check_by_numbers = |c: &Config, other, first: &[u8], second: &[u8]| {
+            reference_check_equivocators(c.n, c.t, c.d, c.own, c.day, c.q, other, first, second)
         };
         match (side, self.kind) {
             (Side::Proved, Kind::Open) => each!(without_input!(host::open)),
@@ -393,27 +489,33 @@ impl Row {
             (Side::Proved, Kind::Receive) => each!(host::receive),
             (Side::Proved, Kind::Preview) => each!(host::preview),
             (Side::Proved, Kind::Setpoint) => each!(without_input!(host::setpoint)),
+            (Side::Proved, Kind::Equivocators) => each!(with_second!(host::equivocators)),
+            (Side::Proved, Kind::CheckEquivocators) => {
+                each!(with_second!(host::check_equivocators));
+            }
             (Side::Reference, Kind::Open) => each!(without_input!(open_by_numbers)),
             (Side::Reference, Kind::Broadcast) => each!(by_numbers!(reference_broadcast)),
             (Side::Reference, Kind::Receive) => each!(by_numbers!(reference_receive)),
             (Side::Reference, Kind::Preview) => each!(by_numbers!(reference_preview)),
             (Side::Reference, Kind::Setpoint) => each!(without_input!(setpoint_by_numbers)),
+            (Side::Reference, Kind::Equivocators) => each!(with_second!(equivocators_by_numbers)),
+            (Side::Reference, Kind::CheckEquivocators) => each!(with_second!(check_by_numbers)),
         }
     }
 
-    /// The codes are what the row says, and calls that only look leave the buffers as they were.
+    /// The answers are what the row says, and calls that only look leave the buffers as they were.
     fn check(&self, side: Side) {
         let mut buffers = self.buffers.clone();
-        self.run(side, &mut buffers, &mut [0; 32], |code| {
+        self.run(side, &mut buffers, &mut [0; 32], |answer| {
             let low = if self.kind == Kind::Setpoint {
                 0xffff
             } else {
                 0
             };
-            assert_eq!(code & !low, self.code, "{}, n = {}", self.name, self.n);
+            assert_eq!(answer & !low, self.answer, "{}, n = {}", self.name, self.n);
         });
-        let looks = matches!(self.kind, Kind::Preview | Kind::Setpoint);
-        let written = looks && buffers != self.buffers;
+        let writes = matches!(self.kind, Kind::Open | Kind::Broadcast | Kind::Receive);
+        let written = !writes && buffers != self.buffers;
         assert!(!written, "{}, n = {}: a record changed", self.name, self.n);
     }
 
@@ -424,8 +526,8 @@ impl Row {
         }
         let mut out = [0; 32];
         let start = Instant::now();
-        self.run(side, buffers, &mut out, |code| {
-            black_box(code);
+        self.run(side, buffers, &mut out, |answer| {
+            black_box(answer);
         });
         start.elapsed().as_nanos() as f64 / self.calls.len() as f64
     }
@@ -449,11 +551,17 @@ impl Row {
             (Side::Proved, Kind::Receive) => ("proved", "mbrb_receive"),
             (Side::Proved, Kind::Preview) => ("proved", "mbrb_preview"),
             (Side::Proved, Kind::Setpoint) => ("proved", "mbrb_setpoint"),
+            (Side::Proved, Kind::Equivocators) => ("proved", "mbrb_equivocators"),
+            (Side::Proved, Kind::CheckEquivocators) => ("proved", "mbrb_check_equivocators"),
             (Side::Reference, Kind::Open) => ("reference", "reference_open"),
             (Side::Reference, Kind::Broadcast) => ("reference", "reference_broadcast"),
             (Side::Reference, Kind::Receive) => ("reference", "reference_receive"),
             (Side::Reference, Kind::Preview) => ("reference", "reference_preview"),
             (Side::Reference, Kind::Setpoint) => ("reference", "reference_setpoint"),
+            (Side::Reference, Kind::Equivocators) => ("reference", "reference_equivocators"),
+            (Side::Reference, Kind::CheckEquivocators) => {
+                ("reference", "reference_check_equivocators")
+            }
         };
         let output = Command::new("valgrind")
             .args(["--tool=callgrind", "--callgrind-out-file=/dev/null"])

@@ -1,8 +1,8 @@
-//! Defects of a call that the refusals from the input are about, and of the buffers' lengths.
+//! Defects of a call that the refusals from the input are about, and of the buffers' lengths; and why a table is not good.
 
 use crate::comparison::{Case, Kind};
 use crate::node::Node;
-use crate::quorums::bad_quorum;
+use crate::quorums::{bad_quorum, Choice, CHOICES};
 use crate::records::{choose, up_to};
 use mbrb::reference::{least_quorum, SENDER_LENGTH};
 use mbrb::{random::Random, Config};
@@ -86,4 +86,48 @@ pub fn bad_config(random: &mut Random, mut config: Config) -> Config {
         config.q = least_quorum(config.n, config.t);
     }
     config
+}
+
+/// Why a table is not good, the first of the reasons that apply.
+#[derive(Clone, Copy, Debug, PartialEq, Eq, PartialOrd, Ord)]
+pub enum Cause {
+    NoNode,
+    TooManyNodes,
+    Own,
+    Faults,
+    Losses,
+    /// Faults and losses are too many, and a byte is too small to tell.
+    SumWraps,
+    Quorum(Choice),
+}
+
+impl Cause {
+    pub fn of(config: &Config) -> Option<Cause> {
+        let [n, t, d] = [config.n, config.t, config.d].map(u32::from);
+        let needed = 3 * t + 2 * d;
+        Some(match config.n {
+            0 => Cause::NoNode,
+            65.. => Cause::TooManyNodes,
+            _ if config.own >= config.n => Cause::Own,
+            _ if n <= needed && n > needed % 256 => Cause::SumWraps,
+            _ if n <= 3 * t => Cause::Faults,
+            _ if n <= needed => Cause::Losses,
+            _ => Cause::Quorum(Choice::of(config).filter(|choice| !choice.is_allowed())?),
+        })
+    }
+}
+
+/// Each of the reasons.
+pub fn causes() -> impl Iterator<Item = Cause> {
+    let quorums = CHOICES.into_iter().filter(|choice| !choice.is_allowed());
+    [
+        Cause::NoNode,
+        Cause::TooManyNodes,
+        Cause::Own,
+        Cause::Faults,
+        Cause::Losses,
+        Cause::SumWraps,
+    ]
+    .into_iter()
+    .chain(quorums.map(Cause::Quorum))
 }

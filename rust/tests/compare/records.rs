@@ -28,6 +28,16 @@ pub fn good_config(random: &mut Random) -> Config {
     good_config_of(random, n)
 }
 
+/// One in three is of 64 nodes: there a mask or a count first goes wrong.
+pub fn good_config_often_of_64(random: &mut Random) -> Config {
+    let n = match random.below(3) {
+        0 => 64,
+        1 => 1 + random.below(64),
+        _ => 1 + random.below(10),
+    };
+    good_config_of(random, n)
+}
+
 /// A good config of so many nodes.
 pub fn good_config_of(random: &mut Random, n: usize) -> Config {
     // With nodes that faults and losses do not need there is more than one quorum.
@@ -184,7 +194,7 @@ impl Slot<'_> {
         record
     }
 
-    fn without_note(&self, random: &mut Random, state: u8) -> RecordBytes {
+    pub fn without_note(&self, random: &mut Random, state: u8) -> RecordBytes {
         let Config { n, own, .. } = *self.config;
         let (mask, quorum, sender) = (self.config.mask(), self.config.quorum(), bit(self.sender));
         let signers = match state {
@@ -361,6 +371,14 @@ pub enum Clause {
     EmptyNote,
     EmptyNotedReservedByte,
     EmptyNotedPayload,
+}
+
+pub fn any_clause(random: &mut Random) -> Clause {
+    // By this clause alone a stricter quorum than the least shows.
+    match random.once_in(12) {
+        true => Clause::DeliveredBelowQuorum,
+        false => CLAUSES[random.below(CLAUSES.len())],
+    }
 }
 
 pub const CLAUSES: [Clause; 20] = [

@@ -63,6 +63,11 @@ pub fn played(rules: Rules, seed: u64) -> Run {
     play(system, rules, random)
 }
 
+/// The same system at the end of another list, on which its correct nodes announce something else.
+pub fn played_again(run: &Run, rules: Rules, seed: u64) -> Run {
+    play(run.system, rules, &mut Random::new(seed))
+}
+
 fn system(rules: Rules, random: &mut Random) -> System {
     let (n, t, d) = match rules.tables {
         [] => any_table(random),

@@ -3,14 +3,16 @@
 //! A list of calls comes from a seed, with any quorum that its table may have; its conclusions are checked from the list alone. The same
 //! checks see violations where the quorum is one less than the least or one more than the most, and where one correct node more than d
 //! misses each sending. On a twentieth as many lists the nodes announce setpoints, and what each makes of them at the end is checked.
-//! What the records hold at the end of each list is checked too: whose bits stand beside a payload, noted ones included, and whose slots
-//! have a note. Those checks fail where signatures are forged, and where bundles are taken wrongly.
+//! What the records hold at the end of each list is checked too: whose bits stand beside a payload, noted ones included, whose slots have
+//! a note, and whom the recordings of two nodes name side by side. Those checks fail where signatures are forged, where bundles are taken
+//! wrongly, and where two recordings are not of one list.
 //!
 //! MBRB_LISTS sets how many lists there are, MBRB_SEED the first one's seed.
 
 mod adversary;
 mod chance;
 mod demand3;
+mod equivocators;
 mod lists;
 mod network;
 mod notes;
@@ -21,6 +23,7 @@ mod trace;
 mod wrong_notes;
 
 use demand3::{Conclusion, History, Violation};
+use equivocators::Named;
 use lists::{played, Announced, Quorum, Rules, LAWFUL};
 use mbrb::setting;
 use notes::Notes;
@@ -73,7 +76,7 @@ fn shown(run: &Run, broken: impl Debug, slot: Slot) -> Vec<String> {
 fn no_violation_in_100_000_lists() {
     let started = Instant::now();
     let lists = setting("MBRB_LISTS", 100_000);
-    let (mut tally, mut notes) = (Tally::default(), Notes::default());
+    let (mut tally, mut notes, mut named) = <(Tally, Notes, Named)>::default();
     for seed in (first_seed()..).take(lists as usize) {
         let (run, history) = lawful_list(LAWFUL, seed);
         if let Some(violation) = violations(&run.system, &history).first() {
@@ -84,14 +87,19 @@ fn no_violation_in_100_000_lists() {
             let calls = shown(&run, wrong, *slot).join("\n");
             panic!("seed {seed}, the records of node {node}: {calls}");
         }
+        if let Err(reason) = named.add(&run) {
+            panic!("seed {seed}, {}: {reason}", run.system);
+        }
         tally.add(&run.system, &run.trace, &history);
         notes.add(&run);
     }
     println!("{tally}");
     println!("{notes}");
+    println!("{named}");
     println!("no violation, {:.1?}", started.elapsed());
     tally.assert_not_vacuous();
     notes.assert_not_vacuous();
+    named.assert_not_vacuous();
 }
 
 /// Small ones: each node announces, so that there are far more calls than elsewhere.

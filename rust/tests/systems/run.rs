@@ -86,6 +86,32 @@ impl Run {
         opened.then(|| host::setpoint(&config, &self.records[usize::from(node)]))
     }
 
+    /// The nodes that were called, and so have opened their day.
+    pub fn called(&self) -> u64 {
+        self.opened
+    }
+
+    /// Who signed two payloads in one slot, by the recordings of two nodes that were called: the word, and the refusal or 0. The second
+    /// one's may be of another list. It is no call of either.
+    pub fn equivocators(&self, first: u8, other: &Run, second: u8) -> (u64, u32) {
+        let records = &other.records[usize::from(second)];
+        self.equivocators_beside(first, second, records)
+    }
+
+    /// By the recording of one node alone: beside that of another on a day just opened.
+    pub fn equivocators_alone(&self, node: u8) -> (u64, u32) {
+        let other = (node + 1) % self.system.n;
+        let empty = vec![0; self.table.records_length()];
+        self.equivocators_beside(node, other, &empty)
+    }
+
+    fn equivocators_beside(&self, node: u8, other: u8, others: &[u8]) -> (u64, u32) {
+        let (config, records) = (&self.config(node), &self.records[usize::from(node)]);
+        let word = host::equivocators(config, other, records, others);
+        let refusal = host::check_equivocators(config, other, records, others);
+        (word, refusal)
+    }
+
     /// The first call at a node, and only that one, opens its day.
     fn open(&mut self, node: u8) {
         if self.opened & bit(node) == 0 {

@@ -1,21 +1,25 @@
-//! The check of the records at the end of a list is seen to fail: where faulty nodes forge signatures, and where a node notes wrongly.
+//! The checks of the records at the end of a list are seen to fail, of each node's and of two side by side: where faulty nodes forge
+//! signatures, where a node notes wrongly, and where two recordings are not of one list.
 
+use crate::equivocators::correct_is_named;
 use crate::first_seed;
-use crate::lists::{played, Rules, LAWFUL};
+use crate::lists::{played, played_again, Rules, LAWFUL};
 use crate::notes::{self, Wrong, NOTED_SIGNERS, SIGNERS};
 use crate::run::Receive;
 use crate::trace::{bit, word, DELIVERED, NOTED};
 use mbrb::{host, Config};
 
-/// In how many of 10,000 lists each thing does not hold of a record.
-fn count_wrong(rules: Rules) -> [u64; Wrong::ALL.len()] {
-    let mut counts = [0; Wrong::ALL.len()];
+/// In how many of 10,000 lists each thing does not hold of a record, and in how many two recordings name a correct node.
+fn count_wrong(rules: Rules) -> ([u64; Wrong::ALL.len()], u64) {
+    let (mut counts, mut naming) = ([0; Wrong::ALL.len()], 0);
     for seed in (first_seed()..).take(10_000) {
-        for (wrong, ..) in notes::wrong(&played(rules, seed)) {
+        let run = played(rules, seed);
+        for (wrong, ..) in notes::wrong(&run) {
             counts[wrong as usize] += 1;
         }
+        naming += u64::from(correct_is_named(&run, &run));
     }
-    counts
+    (counts, naming)
 }
 
 #[test]
@@ -24,7 +28,9 @@ fn forged_signatures_are_seen_in_the_records() {
         forging: true,
         ..LAWFUL
     };
-    let counts = count_wrong(forging);
+    let (counts, naming) = count_wrong(forging);
+    println!("forged signatures, a correct node named: {naming} of 10000 lists");
+    assert!(naming >= 100, "a correct node named: {naming}");
     for (wrong, count) in Wrong::ALL.into_iter().zip(counts) {
         println!("forged signatures, {wrong:?}: {count} of 10000 lists");
         assert!(count >= 100, "{wrong:?}: {count}");
@@ -97,8 +103,19 @@ fn add_signers(config: &Config, bundle: &[u8], records: &mut [u8], at: usize, si
 #[test]
 fn wrong_notes_are_seen_in_the_records() {
     for (name, receive, wrong) in WRONG_NOTES {
-        let counts = count_wrong(Rules { receive, ..LAWFUL });
-        println!("{name}: {counts:?} of 10000 lists");
-        assert!(counts[wrong as usize] >= 100, "{name}");
+        let (counts, naming) = count_wrong(Rules { receive, ..LAWFUL });
+        println!("{name}: {counts:?} of 10000 lists, a correct node named in {naming}");
+        assert!(counts[wrong as usize] >= 100 && naming >= 100, "{name}");
     }
+}
+
+#[test]
+fn recordings_of_two_lists_name_correct_nodes() {
+    let names = |seed: &u64| {
+        let run = played(LAWFUL, *seed);
+        correct_is_named(&run, &played_again(&run, LAWFUL, !seed))
+    };
+    let naming = (first_seed()..).take(10_000).filter(names).count();
+    println!("recordings of two lists, a correct node named: {naming} of 10000");
+    assert!(naming >= 100, "{naming}");
 }

@@ -2,7 +2,7 @@
 //! that error would be found. And taking on every record of small tables.
 
 mod rules;
-mod small;
+pub mod small;
 mod wrong;
 
 use crate::comparison::{Kind, Records, REFERENCE};

@@ -1,5 +1,6 @@
 //! Taking a bundle on its record, cut where a wrong implementation differs.
 
+use crate::misjudged::Judge;
 use crate::records::{
     bit, encode, noted_payload_of, noted_signers_of, payload_of, put_note, signers_of, well_formed,
     DELIVERED, EMPTY, HELD,
@@ -100,7 +101,7 @@ pub type Part = fn(&Meeting) -> Result<Outcome, u32>;
 /// The rules in parts. With all of them right they are one more implementation.
 #[derive(Clone, Copy)]
 pub struct Rules {
-    pub well_formed: fn(&Config, u8, &RecordBytes) -> bool,
+    pub well_formed: Judge,
     /// 22 or 23
     pub refusal: fn(&Meeting) -> Option<u32>,
     /// on an empty record, or where the payload is held

@@ -48,7 +48,7 @@ fn halves(n: u8) -> impl Iterator<Item = (u64, [u8; 16])> {
 }
 
 /// Each record of a slot, with one of the zero bytes beside the noted signers set or not.
-fn records(n: u8) -> impl Iterator<Item = RecordBytes> {
+pub fn records(n: u8) -> impl Iterator<Item = RecordBytes> {
     let firsts = (0..4).flat_map(move |state| halves(n).map(move |first| (state, first)));
     let notes = move || halves(n).flat_map(|noted| [0, 1].map(|stray| (noted, stray)));
     firsts.flat_map(move |(state, (signers, payload))| {

@@ -1,16 +1,19 @@
 //! Rules of taking that are right but for one thing: the comparison has to find each.
 
 use super::rules::{join, note, refusal, replace, Half, Outcome, Rules, RIGHT};
-use crate::records::{
-    bit, noted_payload_of, noted_signers_of, payload_of, put_note, well_formed, DELIVERED, EMPTY,
-    HELD,
-};
-use mbrb::reference::RecordBytes;
-use mbrb::Config;
+use crate::misjudged::MISJUDGED;
+use crate::records::{bit, DELIVERED, HELD};
 
 /// What is wrong, and the rules with it.
 pub fn wrong() -> Vec<(&'static str, Rules)> {
-    [NOTING, JOINING, REPLACING, REFUSING, LENIENT, STRICT].concat()
+    let misjudging = MISJUDGED.map(|(name, well_formed)| {
+        let rules = Rules {
+            well_formed,
+            ..RIGHT
+        };
+        (name, rules)
+    });
+    [NOTING, JOINING, REPLACING, REFUSING, &misjudging].concat()
 }
 
 /// What is right, with one thing changed.
@@ -317,185 +320,6 @@ const REFUSING: &[(&str, Rules)] = &[
                 let other = meeting.first.payload != meeting.brought.payload;
                 let noted = other && !meeting.enough(meeting.brought) && !meeting.has_our_bit();
                 refusal(meeting).filter(|&number| number != 22 || !noted)
-            },
-            ..RIGHT
-        },
-    ),
-];
-
-/// Rules that take a record for well-formed if it is so outcome this is done to it.
-fn mended(
-    config: &Config,
-    sender: u8,
-    record: &RecordBytes,
-    mend: impl FnOnce(&mut RecordBytes),
-) -> bool {
-    let mut record = *record;
-    mend(&mut record);
-    well_formed(config, sender, &record)
-}
-
-/// The same with other noted signers.
-fn mended_signers(
-    config: &Config,
-    sender: u8,
-    record: &RecordBytes,
-    mend: impl FnOnce(u64) -> u64,
-) -> bool {
-    mended(config, sender, record, |record| {
-        let (signers, payload) = (noted_signers_of(record), noted_payload_of(record));
-        put_note(record, mend(signers), &payload);
-    })
-}
-
-/// The same with another noted payload, where the first one is noted in a record of this state.
-fn mended_payload(config: &Config, sender: u8, record: &RecordBytes, state: u8) -> bool {
-    mended(config, sender, record, |record| {
-        let signers = noted_signers_of(record);
-        let mut payload = noted_payload_of(record);
-        if record[0] == state && signers != 0 && payload == payload_of(record) {
-            payload[0] ^= 1;
-            put_note(record, signers, &payload);
-        }
-    })
-}
-
-/// They pass over something that makes a record malformed.
-const LENIENT: &[(&str, Rules)] = &[
-    (
-        "bytes 40 to 47 passed over",
-        Rules {
-            well_formed: |config, sender, record| {
-                mended(config, sender, record, |record| record[40..48].fill(0))
-            },
-            ..RIGHT
-        },
-    ),
-    (
-        "a noted bit at n or above passed over",
-        Rules {
-            well_formed: |config, sender, record| {
-                mended_signers(config, sender, record, |signers| signers & config.mask())
-            },
-            ..RIGHT
-        },
-    ),
-    (
-        "a note without the sender's bit passed over",
-        Rules {
-            well_formed: |config, sender, record| {
-                mended_signers(config, sender, record, |signers| match signers {
-                    0 => 0,
-                    _ => signers | bit(sender),
-                })
-            },
-            ..RIGHT
-        },
-    ),
-    (
-        "a noted payload without signers passed over",
-        Rules {
-            well_formed: |config, sender, record| {
-                mended(config, sender, record, |record| {
-                    if noted_signers_of(record) == 0 {
-                        put_note(record, 0, &[0; 16]);
-                    }
-                })
-            },
-            ..RIGHT
-        },
-    ),
-    (
-        "a note of the held payload passed over",
-        Rules {
-            well_formed: |config, sender, record| mended_payload(config, sender, record, HELD),
-            ..RIGHT
-        },
-    ),
-    (
-        "a note of the delivered payload passed over",
-        Rules {
-            well_formed: |config, sender, record| mended_payload(config, sender, record, DELIVERED),
-            ..RIGHT
-        },
-    ),
-    (
-        "an empty record with a note taken for empty",
-        Rules {
-            well_formed: |config, sender, record| {
-                mended(config, sender, record, |record| {
-                    if record[0] == EMPTY {
-                        record[32..].fill(0);
-                    }
-                })
-            },
-            ..RIGHT
-        },
-    ),
-    (
-        "notes of delivered records not looked at",
-        Rules {
-            well_formed: |config, sender, record| {
-                mended(config, sender, record, |record| {
-                    if record[0] == DELIVERED {
-                        record[32..].fill(0);
-                    }
-                })
-            },
-            ..RIGHT
-        },
-    ),
-];
-
-/// They take something for malformed that no rule forbids.
-const STRICT: &[(&str, Rules)] = &[
-    (
-        "our own bit in a note malformed",
-        Rules {
-            well_formed: |config, sender, record| {
-                let ours = noted_signers_of(record) & bit(config.own) != 0;
-                well_formed(config, sender, record) && !ours
-            },
-            ..RIGHT
-        },
-    ),
-    (
-        "our own bit asked of a note",
-        Rules {
-            well_formed: |config, sender, record| {
-                let noted = noted_signers_of(record);
-                let ours = noted == 0 || noted & bit(config.own) != 0;
-                well_formed(config, sender, record) && ours
-            },
-            ..RIGHT
-        },
-    ),
-    (
-        "a noted quorum malformed",
-        Rules {
-            well_formed: |config, sender, record| {
-                let enough = noted_signers_of(record).count_ones() >= config.q;
-                well_formed(config, sender, record) && !enough
-            },
-            ..RIGHT
-        },
-    ),
-    (
-        "a note in our own slot malformed",
-        Rules {
-            well_formed: |config, sender, record| {
-                let noted = noted_signers_of(record) != 0;
-                well_formed(config, sender, record) && !(noted && sender == config.own)
-            },
-            ..RIGHT
-        },
-    ),
-    (
-        "a note of an all-zero payload malformed",
-        Rules {
-            well_formed: |config, sender, record| {
-                let zero = noted_signers_of(record) != 0 && noted_payload_of(record) == [0; 16];
-                well_formed(config, sender, record) && !zero
             },
             ..RIGHT
         },

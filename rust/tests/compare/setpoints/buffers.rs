@@ -1,8 +1,9 @@
 //! Whole buffers of records with setpoints in them, each from a seed and a number, and what it was made to show.
 
 use super::defects::{damage, Defect};
-use crate::records::{bytes, choose, good_config_of, up_to, Slot, DELIVERED, HELD};
-use mbrb::reference::{RecordBytes, RECORD_LENGTH, SENDER_LENGTH};
+use crate::lent::Lent;
+use crate::records::{bytes, choose, good_config_often_of_64, up_to, Slot, DELIVERED, HELD};
+use mbrb::reference::RecordBytes;
 use mbrb::{random::Random, Config};
 
 /// What a record holds that is not empty.
@@ -147,10 +148,7 @@ pub struct Sender {
 
 pub struct Buffer {
     pub config: Config,
-    /// the records, and room behind them
-    pub bytes: Vec<u8>,
-    /// the call gets so many of the bytes
-    pub lent: usize,
+    pub lent: Lent,
     pub senders: Vec<Sender>,
     pub defects: Vec<Defect>,
     values: Values,
@@ -161,7 +159,7 @@ pub struct Buffer {
 /// The buffer of this number.
 pub fn buffer(seed: u64, number: u64) -> Buffer {
     let random = &mut Random::new(Random::new(seed).word().wrapping_add(number));
-    let config = any_config(random);
+    let config = good_config_often_of_64(random);
     let mut buffer = Buffer::empty(random, config);
     let count = pooled_count(random, &config);
     let pooled = choose(random, config.mask(), count);
@@ -172,16 +170,6 @@ pub fn buffer(seed: u64, number: u64) -> Buffer {
         damage(random, &mut buffer);
     }
     buffer
-}
-
-/// One in three is of 64 nodes: there a mask or a count first goes wrong.
-pub fn any_config(random: &mut Random) -> Config {
-    let n = match random.below(3) {
-        0 => 64,
-        1 => 1 + random.below(64),
-        _ => 1 + random.below(10),
-    };
-    good_config_of(random, n)
 }
 
 /// How many senders have a setpoint that counts: mostly about as many as are needed.
@@ -201,11 +189,9 @@ fn pooled_count(random: &mut Random, config: &Config) -> u32 {
 impl Buffer {
     /// A day just opened.
     pub fn empty(random: &mut Random, config: Config) -> Buffer {
-        let length = config.records_length();
         Buffer {
             config,
-            bytes: vec![0; length + SENDER_LENGTH],
-            lent: length,
+            lent: Lent::empty(config.n),
             senders: vec![Sender::default(); config.n.into()],
             defects: Vec::new(),
             values: Values::new(random),
@@ -247,16 +233,11 @@ impl Buffer {
     fn put(&mut self, random: &mut Random, at: (u8, usize), content: Content, value: i16) {
         let (sender, seq) = at;
         let record = content.record(random, &self.config, sender, value);
-        self.put_bytes(sender, seq, &record);
+        self.lent.put(sender, seq, &record);
         let sender = &mut self.senders[usize::from(sender)];
         sender.contents.push((seq, content));
         let counted = sender.counted.map(|(_, counted)| counted);
         sender.changed |= content == Content::Setpoint && counted != Some(value);
-    }
-
-    pub fn put_bytes(&mut self, sender: u8, seq: usize, record: &RecordBytes) {
-        let place = SENDER_LENGTH * usize::from(sender) + RECORD_LENGTH * seq;
-        self.bytes[place..place + RECORD_LENGTH].copy_from_slice(record);
     }
 
     pub fn any_value(&self, random: &mut Random) -> i16 {

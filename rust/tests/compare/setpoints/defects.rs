@@ -1,11 +1,10 @@
 //! What the refusals of one setpoint from many are about, but for too few setpoints.
 
 use super::buffers::{setpoint, Buffer, Sender};
-use crate::damage::bad_config;
-use crate::quorums::Choice;
-use crate::records::{Clause, Slot, CLAUSES};
-use mbrb::reference::{RECORD_LENGTH, SENDER_LENGTH};
-use mbrb::{random::Random, Config};
+use crate::damage::{bad_config, Cause};
+use crate::lent::Length;
+use crate::records::{any_clause, Clause, Slot};
+use mbrb::random::Random;
 
 #[derive(Clone, Copy, Debug, PartialEq, Eq, PartialOrd, Ord)]
 pub enum Defect {
@@ -21,75 +20,6 @@ impl Defect {
             Defect::Table(_) => 1,
             Defect::Length(_) => 20,
             Defect::Malformed(..) => 21,
-        }
-    }
-}
-
-/// Why a table is not good, the first of the reasons that apply.
-#[derive(Clone, Copy, Debug, PartialEq, Eq, PartialOrd, Ord)]
-pub enum Cause {
-    NoNode,
-    TooManyNodes,
-    Own,
-    Faults,
-    Losses,
-    /// Faults and losses are too many, and a byte is too small to tell.
-    SumWraps,
-    Quorum(Choice),
-}
-
-impl Cause {
-    fn of(config: &Config) -> Option<Cause> {
-        let [n, t, d] = [config.n, config.t, config.d].map(u32::from);
-        let needed = 3 * t + 2 * d;
-        Some(match config.n {
-            0 => Cause::NoNode,
-            65.. => Cause::TooManyNodes,
-            _ if config.own >= config.n => Cause::Own,
-            _ if n <= needed && n > needed % 256 => Cause::SumWraps,
-            _ if n <= 3 * t => Cause::Faults,
-            _ if n <= needed => Cause::Losses,
-            _ => Cause::Quorum(Choice::of(config).filter(|choice| !choice.is_allowed())?),
-        })
-    }
-}
-
-/// How many bytes are lent in place of all.
-#[derive(Clone, Copy, Debug, PartialEq, Eq, PartialOrd, Ord)]
-pub enum Length {
-    Nothing,
-    /// as many as records without notes would have
-    Half,
-    SenderLess,
-    RecordLess,
-    ByteLess,
-    ByteMore,
-    RecordMore,
-    SenderMore,
-}
-
-pub const LENGTHS: [Length; 8] = [
-    Length::Nothing,
-    Length::Half,
-    Length::SenderLess,
-    Length::RecordLess,
-    Length::ByteLess,
-    Length::ByteMore,
-    Length::RecordMore,
-    Length::SenderMore,
-];
-
-impl Length {
-    fn in_place_of(self, right: usize) -> usize {
-        match self {
-            Length::Nothing => 0,
-            Length::Half => right / 2,
-            Length::SenderLess => right - SENDER_LENGTH,
-            Length::RecordLess => right - RECORD_LENGTH,
-            Length::ByteLess => right - 1,
-            Length::ByteMore => right + 1,
-            Length::RecordMore => right + RECORD_LENGTH,
-            Length::SenderMore => right + SENDER_LENGTH,
         }
     }
 }
@@ -165,27 +95,20 @@ fn spoil_table(random: &mut Random, buffer: &mut Buffer) {
     buffer.config = bad_config(random, buffer.config);
     // With the length that is right for it, the table alone is to blame.
     if buffer.defects.is_empty() && random.once_in(2) {
-        buffer.lent = buffer.config.records_length();
-        let room = buffer.bytes.len().max(buffer.lent);
-        buffer.bytes.resize(room, 0);
+        buffer.lent.lend(buffer.config.records_length());
     }
     let cause = Cause::of(&buffer.config).expect("a reason why it is not good");
     buffer.defects.push(Defect::Table(cause));
 }
 
 fn spoil_length(random: &mut Random, buffer: &mut Buffer) {
-    let length = LENGTHS[random.below(LENGTHS.len())];
-    buffer.lent = length.in_place_of(SENDER_LENGTH * buffer.senders.len());
+    let length = buffer.lent.misfit(random);
     buffer.defects.push(Defect::Length(length));
 }
 
 fn spoil_record(random: &mut Random, buffer: &mut Buffer) {
     let place = PLACES[random.below(PLACES.len())];
-    // By this clause alone a stricter quorum than the least shows.
-    let clause = match random.once_in(12) {
-        true => Clause::DeliveredBelowQuorum,
-        false => CLAUSES[random.below(CLAUSES.len())],
-    };
+    let clause = any_clause(random);
     let slot = place.slot(random, &buffer.senders);
     // What makes a record malformed is known only while the table is good.
     let Some((sender, seq)) = slot.filter(|_| buffer.config.good()) else {
@@ -200,7 +123,7 @@ fn spoil_record(random: &mut Random, buffer: &mut Buffer) {
         payload,
     };
     if let Some(record) = slot.malformed(random, clause) {
-        buffer.put_bytes(sender, seq, &record);
+        buffer.lent.put(sender, seq, &record);
         buffer.defects.push(Defect::Malformed(clause, place));
     }
 }

@@ -36,10 +36,10 @@ struct Difference {
 
 /// The code on which both agree.
 fn judge(pair: [Setpoint; 2], buffer: &mut Buffer) -> Result<u32, Difference> {
-    let before = buffer.bytes.clone();
-    let codes = pair.map(|call| call(&buffer.config, &mut buffer.bytes[..buffer.lent]));
-    let written = buffer.bytes != before;
-    buffer.bytes = before;
+    let before = buffer.lent.bytes.clone();
+    let codes = pair.map(|call| call(&buffer.config, buffer.lent.records_mut()));
+    let written = buffer.lent.bytes != before;
+    buffer.lent.bytes = before;
     if written || codes[0] != codes[1] {
         return Err(Difference { codes, written });
     }
@@ -81,7 +81,7 @@ fn wrong_setpoints_are_found() {
     let mut found = vec![0; wrong.len()];
     for number in 0..TRIED {
         let mut buffer = buffer(SEED, number);
-        let records = &mut buffer.bytes[..buffer.lent];
+        let records = buffer.lent.records_mut();
         let code = REFERENCE(&buffer.config, records);
         assert_eq!(wrong::RIGHT.code(&buffer.config, records), code, "{number}");
         for (found, (_, rules)) in found.iter_mut().zip(&wrong) {

@@ -1,8 +1,8 @@
 //! What the outcome is for: senders with swapped sensors do not drag it past what all others ask for, as long as they are at most t.
 
-use super::buffers::{any_config, Buffer};
+use super::buffers::Buffer;
 use super::SEED;
-use crate::records::choose;
+use crate::records::{choose, good_config_often_of_64};
 use mbrb::{host, random::Random, setting, Config};
 use std::fmt;
 use std::ops::RangeInclusive;
@@ -95,7 +95,7 @@ impl Pool {
 
     fn outcome(&self) -> i16 {
         let config = &self.buffer.config;
-        let code = host::setpoint(config, &self.buffer.bytes[..self.buffer.lent]);
+        let code = host::setpoint(config, self.buffer.lent.records());
         assert_eq!(code >> 16, 1, "{code}, {config:?}");
         code as i16
     }
@@ -149,7 +149,7 @@ const POOLS: usize = 20_000;
 fn pools(faulty: fn(&mut Random, &Config) -> u32) -> impl Iterator<Item = Pool> {
     let mut random = Random::new(setting("MBRB_SEED", SEED));
     std::iter::repeat_with(move || {
-        let config = any_config(&mut random);
+        let config = good_config_often_of_64(&mut random);
         let faulty = faulty(&mut random, &config);
         let possible = faulty < u32::from(config.n);
         let kept = possible && (config.t > 0 || random.once_in(10));

@@ -1,7 +1,9 @@
 //! How many buffers showed each thing that a wrong setpoint could go wrong by.
 
 use super::buffers::{Buffer, Content, Sender, MARKS};
-use super::defects::{Cause, Defect, Length, Place, LENGTHS, PLACES};
+use super::defects::{Defect, Place, PLACES};
+use crate::damage::{causes, Cause};
+use crate::lent::{Length, LENGTHS};
 use crate::quorums::{Choice, CHOICES};
 use crate::records::{Clause, CLAUSES};
 use std::collections::{BTreeMap, BTreeSet};
@@ -116,10 +118,6 @@ fn kinds() -> impl Iterator<Item = Seen> {
 
 fn refusals() -> impl Iterator<Item = Seen> {
     let pairs = [(1, 20), (1, 21), (1, 27), (20, 21), (20, 27), (21, 27)];
-    let bad_quorums = CHOICES
-        .into_iter()
-        .filter(|choice| !choice.is_allowed())
-        .map(Cause::Quorum);
     let missing = [
         Seen::OneMissing,
         Seen::SeveralMissing,
@@ -128,7 +126,7 @@ fn refusals() -> impl Iterator<Item = Seen> {
     pairs
         .map(|(first, second)| Seen::FirstOf(first, second))
         .into_iter()
-        .chain(CAUSES.into_iter().chain(bad_quorums).map(Seen::BadTable))
+        .chain(causes().map(Seen::BadTable))
         .chain(LENGTHS.map(Seen::WrongLength))
         .chain(CLAUSES.map(Seen::Malformed))
         .chain(PLACES.map(Seen::MalformedAt))
@@ -145,16 +143,6 @@ const OF_SENDERS_AND_VALUES: [Seen; 9] = [
     Seen::AllEqual,
     Seen::Lowest,
     Seen::Highest,
-];
-
-/// Of a table, but for its quorum.
-const CAUSES: [Cause; 6] = [
-    Cause::NoNode,
-    Cause::TooManyNodes,
-    Cause::Own,
-    Cause::Faults,
-    Cause::Losses,
-    Cause::SumWraps,
 ];
 
 fn needed(buffer: &Buffer) -> usize {

@@ -1,8 +1,9 @@
 //! Setpoints by rules that are right but for one: the comparison has to find each.
 
 use super::buffers::MARKS;
+use crate::misjudged::{Judge, MISJUDGED};
 use crate::records::{noted_payload_of, payload_of, well_formed};
-use mbrb::reference::{least_quorum, RecordBytes, SEQS};
+use mbrb::reference::{RecordBytes, SEQS};
 use mbrb::Config;
 
 /// A setpoint and its number.
@@ -16,7 +17,7 @@ type Payload = (usize, Option<i16>);
 pub struct Rules {
     /// the refusals, the one that is tested first in front
     order: &'static [u32],
-    well_formed: fn(&Config, u8, &RecordBytes) -> bool,
+    well_formed: Judge,
     /// whether the record of a number is tested at a sender, given what counts there
     tested: fn(usize, &[Numbered]) -> bool,
     states: &'static [u8],
@@ -123,7 +124,14 @@ pub fn wrong() -> Vec<(String, Rules)> {
         };
         (format!("byte {at} of the payload not looked at"), rules)
     };
-    [OUTCOMES, POOLS, REFUSALS]
+    let misjudging = MISJUDGED.map(|(name, well_formed)| {
+        let rules = Rules {
+            well_formed,
+            ..RIGHT
+        };
+        (name, rules)
+    });
+    [OUTCOMES, POOLS, REFUSALS, &misjudging]
         .concat()
         .iter()
         .map(named)
@@ -442,52 +450,6 @@ const REFUSALS: &[(&str, Rules)] = &[
         "the last number not tested",
         Rules {
             tested: |seq, _| seq < 15,
-            ..RIGHT
-        },
-    ),
-    (
-        "records judged by the least quorum",
-        Rules {
-            well_formed: |config, sender, record| {
-                let q = least_quorum(config.n, config.t);
-                well_formed(&Config { q, ..*config }, sender, record)
-            },
-            ..RIGHT
-        },
-    ),
-    (
-        "records judged as our own",
-        Rules {
-            well_formed: |config, _, record| well_formed(config, config.own, record),
-            ..RIGHT
-        },
-    ),
-    (
-        "empty records not tested",
-        Rules {
-            well_formed: |config, sender, record| {
-                record[0] == 0 || well_formed(config, sender, record)
-            },
-            ..RIGHT
-        },
-    ),
-    (
-        "notes not tested",
-        Rules {
-            well_formed: |config, sender, record| {
-                let mut without = *record;
-                without[32..].fill(0);
-                well_formed(config, sender, &without)
-            },
-            ..RIGHT
-        },
-    ),
-    (
-        "held records not tested",
-        Rules {
-            well_formed: |config, sender, record| {
-                record[0] == 1 || well_formed(config, sender, record)
-            },
             ..RIGHT
         },
     ),
