@@ -32,6 +32,12 @@ module _ (a b : Entry) (node : ℕ) where
   both-distinct (inl e) = both-nobody e
   both-distinct (inr e) = both-other e
 
+-- so nobody stands in both where one of them has nobody
+pub both-none : (a b : Entry) (node : ℕ) → (a .signers ≡ 0) ⊎ (b .signers ≡ 0) → signedBoth a b node ≡ false
+unfolding signedBoth
+both-none a b node (inl e) = rw (e, nobody)
+both-none a b node (inr e) = rw (e, nobody) (and-false (member (a .signers) node))
+
 -- the same entry, or one with the same signers where there are none
 abbrev pub Alike : (a b : Entry) → Type 0
 Alike a b = (a .signers ≡ b .signers) × ((a .signers ≡ 0) ⊎ (a .payload ≡ b .payload))
@@ -48,6 +54,13 @@ pub four : (a b c d : Entry) (node : ℕ)
     ≡ ((signedBoth a b node || (signedBoth a c node || signedBoth a d node)) || ((signedBoth b c node || signedBoth b d node) || signedBoth c d node))
 unfolding signedTwo signedBeside
 four a b c d node = simp (or-false)
+
+-- of which the second and the fourth have nobody
+pub four-two : (a b c d : Entry) (node : ℕ) → b .signers ≡ 0 → d .signers ≡ 0 → signedTwo (a ∷ b ∷ c ∷ d ∷ []) node ≡ signedBoth a c node
+four-two a b c d node none other =
+    four a b c d node
+    ∙ simp
+    (both-none a b node (inr none), both-none a d node (inr other), both-none b c node (inl none), both-none b d node (inl none), both-none c d node (inr other), or-false)
 
 pub four-alike : (a b c d e f g h : Entry) (node : ℕ) → Alike a e → Alike b f → Alike c g → Alike d h
     → signedTwo (a ∷ b ∷ c ∷ d ∷ []) node ≡ signedTwo (e ∷ f ∷ g ∷ h ∷ []) node

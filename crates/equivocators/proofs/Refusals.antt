@@ -85,17 +85,3 @@ module _ (config : Config) (other : ℕ) (first second : List ℕ) where
             go true x true y = absurd (true≢false (sym (both-formed ∙ rw (x, y)) ∙ e))
             go true x false y = refused-other-formed x q y
             go false x b y = refused-formed x
-
--- a buffer with itself, as at its own node
-pub own-again : (config : Config) → withOwn config (config .own) ≡ config
-unfolding withOwn
-own-again config = refl
-
-pub self-formed : (config : Config) (records : List ℕ) → allFormed config (config .own) records records ≡ allWellFormed config records
-self-formed config records =
-    both-formed config (config .own) records records
-    ∙ (ap (λ (k : Config). allWellFormed config records && allWellFormed k records) (own-again config) ∙ go (allWellFormed config records))
-  where
-    go : (b : Bool) → (b && b) ≡ b
-    go true = refl
-    go false = refl

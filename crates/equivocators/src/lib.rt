@@ -5,13 +5,17 @@ use config::Config;
 use payload::Payload;
 use record::Record;
 use refusal::Refusal;
+use refusal::Verdict;
 ghost use mathlib.Core.Path.{_≡_};
 ghost use mathlib.Core.Bool.{true};
 ghost use Prim.Native.Nat.{_+_, _≤_, _<_};
 ghost use lib.ListN.{length};
 ghost use Rattle.octets.specs.Octets.{part};
+ghost use Rattle.refusal.specs.Refusal.{verdictOf};
+ghost use Rattle.refusal.specs.Outcome.{plain};
 ghost use Rattle.config.specs.Config.{good, slots, recordSize, recordsSize, withOwn};
 ghost use Rattle.record.specs.Record.{bytes};
+ghost use Rattle.calls.specs.WellFormed.{senderWellFormed, allWellFormed};
 ghost use Rattle.record.proofs.Words.{Fits};
 ghost use Rattle.equivocators.specs.Equivocators.{equivocators as equivocatorsOf, namingOf};
 ghost use Rattle.equivocators.specs.Inner.{Distinct, Names, signedBothBy, amongRecords, Compared, slotFormed, slotNames, senderFormed, senderNames, allFormed, allNames};
@@ -38,9 +42,9 @@ pub fn equivocators(config: Config, other: u8, first: &[u8], second: &[u8]) -> N
     if first.len() != size {
         return Naming::Refused(Refusal::RecordsLength);
     }
-    // A malformed record of the first buffer comes before the length of the second. It is found by comparing the first with itself.
+    // A malformed record of the first buffer comes before the length of the second.
     if second.len() != size {
-        if !compare(config, config.own, first, first).formed {
+        if !all_well_formed(config, first) {
             return Naming::Refused(Refusal::MalformedRecord);
         }
         return Naming::Refused(Refusal::RecordsLength);
@@ -53,6 +57,70 @@ pub fn equivocators(config: Config, other: u8, first: &[u8], second: &[u8]) -> N
         return Naming::Refused(Refusal::SameNode);
     }
     Naming::Named(comparison.named)
+}
+
+// R11.7: why the records of two nodes are not compared, if they are not. Nobody is looked for, so that it costs less.
+pub fn check_equivocators(config: Config, other: u8, first: &[u8], second: &[u8]) -> Verdict
+    ensures { λ r. ⌜ verdictOf r ≡ plain (equivocatorsOf config other (now (first .entry)) (now (second .entry))) ⌝ }
+{
+    if !config.good() {
+        return Verdict::Refused(Refusal::BadConfig);
+    }
+    let there = config.with_own(other);
+    if !there.good() {
+        return Verdict::Refused(Refusal::BadConfig);
+    }
+    let size = config.records_size();
+    if first.len() != size {
+        return Verdict::Refused(Refusal::RecordsLength);
+    }
+    if !all_well_formed(config, first) {
+        return Verdict::Refused(Refusal::MalformedRecord);
+    }
+    if second.len() != size {
+        return Verdict::Refused(Refusal::RecordsLength);
+    }
+    if !all_well_formed(there, second) {
+        return Verdict::Refused(Refusal::MalformedRecord);
+    }
+    if config.own == other {
+        return Verdict::Refused(Refusal::SameNode);
+    }
+    Verdict::Done
+}
+
+// Whether all records of a buffer are well-formed.
+fn all_well_formed(config: Config, records: &[u8]) -> bool
+    requires { ⌜ good config ≡ true ⌝ }
+    requires { ⌜ length (now records) ≡ recordsSize config ⌝ }
+    ensures { λ r. ⌜ r ≡ allWellFormed config (now (records .entry)) ⌝ }
+{
+    let mut sender = 0;
+    while sender < config.n {
+        if !sender_well_formed(config, sender, records) {
+            return false;
+        }
+        sender += 1;
+    }
+    true
+}
+
+// Whether the sixteen of a sender are.
+fn sender_well_formed(config: Config, sender: u8, records: &[u8]) -> bool
+    requires { ⌜ good config ≡ true ⌝ }
+    requires { ⌜ length (now records) ≡ recordsSize config ⌝ }
+    requires { ⌜ sender < config .n ⌝ }
+    ensures { λ r. ⌜ r ≡ senderWellFormed config (now (records .entry)) sender ⌝ }
+{
+    let mut seq = 0;
+    while seq < config::SLOTS {
+        let start = config.slot_of_day(sender, seq).place();
+        if !get(start, records).well_formed(config, sender) {
+            return false;
+        }
+        seq += 1;
+    }
+    true
 }
 
 // What a comparison finds: whether all records that it looked at are well-formed, and if so, who is named by them.
@@ -176,6 +244,11 @@ fn among(here: Record, there: Record) -> u64
     let other_held = there.payload;
     let other_noted = there.note;
     let other_noted_payload = other_noted.payload;
+    if noted.signers == 0 {
+        if other_noted.signers == 0 {
+            return signed_both(here.signers, held, there.signers, other_held);
+        }
+    }
     let by_held = signers::union(
         signers::common(here.signers, noted.signers),
         signers::union(

@@ -50,7 +50,8 @@ pub extern "C" fn mbrb_receive(
     receipt_code(calls::receive(config, bundle, records, out))
 }
 
-fn verdict_code(verdict: Verdict) -> u32
+// The code of opening, and of checking whether two nodes' records are compared.
+pub fn verdict_code(verdict: Verdict) -> u32
     ensures { λ r. ⌜ r ≡ openedCode (verdictOf verdict) ⌝ }
 {
     match verdict {

@@ -2,10 +2,10 @@
 use mathlib.Core.Path.{_≡_, refl, sym, ap, _∙_, subst}
 use mathlib.Core.Bool.{true, true≢false}
 use Prim.Native.Nat.{ℕ}
-use Rattle.refusal.specs.Outcome.{Outcome, refused, done}
+use Rattle.refusal.specs.Outcome.{Outcome, refused, done, plain}
 use Rattle.refusal.proofs.Reasons.{Comes, unless-comes}
 use Rattle.signers.specs.Words.{wordOf}
-use Rattle.mbrb.specs.Code.{listed}
+use Rattle.mbrb.specs.Code.{openedCode, listed}
 use Rattle.equivocators.specs.Equivocators.{equivocates, equivocatorsReasons, equivocators}
 use Rattle.mbrb_equivocators.specs.Code.{namedWord, checkCode, equivocatorsRefusals, RefusalsListed, WordNeedsNoCheck}
 
@@ -27,3 +27,8 @@ word-needs-no-check config other first second = go (equivocators config other fi
         → ((namedWord outcome ≡ 0 → ⊥) → checkCode outcome ≡ 0) × (checkCode outcome ≡ 0 → outcome ≡ done (namedWord outcome))
     go (refused number) is = ((λ some. absurd (some refl)), (λ none. absurd (not-listed number none (refusals-listed config other first second number is))))
     go (done word) is = ((λ some. refl), (λ none. refl))
+
+-- the code goes by the outcome alone
+pub plain-code : (outcome : Outcome ℕ) → openedCode (plain outcome) ≡ checkCode outcome
+plain-code (refused number) = refl
+plain-code (done word) = refl

@@ -42,7 +42,12 @@ pub extern "C" fn mbrb_check_equivocators(
 ) -> u32
     ensures { λ r. ⌜ r ≡ checkCode (equivocators (configOf n t d own day quorum) other (now (first .entry)) (now (second .entry))) ⌝ }
 {
-    code(equivocators::equivocators(Config::new(n, t, d, own, day, quorum), other, first, second))
+    mbrb::verdict_code(equivocators::check_equivocators(
+        Config::new(n, t, d, own, day, quorum),
+        other,
+        first,
+        second,
+    ))
 }
 
 fn word(naming: Naming) -> u64
@@ -51,14 +56,5 @@ fn word(naming: Naming) -> u64
     match naming {
         Naming::Named(named) => named,
         Naming::Refused(_) => 0,
-    }
-}
-
-fn code(naming: Naming) -> u32
-    ensures { λ r. ⌜ r ≡ checkCode (namingOf naming) ⌝ }
-{
-    match naming {
-        Naming::Named(_) => 0,
-        Naming::Refused(reason) => refusal::number(reason),
     }
 }

@@ -14,12 +14,13 @@ use Rattle.config.specs.declared.Config.{Config}
 use Rattle.config.specs.Config.{good, withOwn, recordsSize}
 use Rattle.calls.specs.WellFormed.{allWellFormed}
 use Rattle.equivocators.specs.Equivocators.{equivocates}
-use Rattle.equivocators.proofs.Refusals.{both-formed, own-again, self-formed, refused-config, refused-other, refused-size, refused-formed, refused-other-size, refused-either, refused-same, names}
+use Rattle.equivocators.proofs.Refusals.{both-formed, refused-config, refused-other, refused-size, refused-formed, refused-other-size, refused-either, refused-same, names}
 use Rattle.equivocators.proofs.equivocators.Statement.{statement}
 use Rattle.equivocators.proofs.equivocators.Tie as tie
 use Rattle.config.proofs.Config.good.Reads as good-reads
 use Rattle.config.proofs.Config.records_size.Reads as records-size-reads
 use Rattle.config.proofs.Config.with_own.Reads as with-own-reads
+use Rattle.equivocators.proofs.all_well_formed.Reads as all-well-formed-reads
 use Rattle.equivocators.proofs.compare.Reads as compare-reads
 
 -- ---- what is known on the way
@@ -84,7 +85,7 @@ module _ (c : tie.Else6) where
   formed : (allWellFormed (config at) (first at) ≡ true) × (allWellFormed (withOwn (config at) (other at)) (second at) ≡ true)
   formed =
       and-eq-true-iff (allWellFormed (config at) (first at)) (allWellFormed (withOwn (config at) (other at)) (second at)) .0
-      (sym (both-formed (config at) (other at) (first at) (second at)) ∙ (sym (c .before .before .compare2 .ensures .formedness) ∙ not-false _ (c .if6 .left)))
+      (sym (both-formed (config at) (other at) (first at) (second at)) ∙ (sym (c .before .before .compare .ensures .formedness) ∙ not-false _ (c .if6 .left)))
 
 -- ---- the needs
 
@@ -117,33 +118,30 @@ returns-3 c =
     let h = sym (other-is t) ∙ not-false _ (c .before .before .if2 .left) in
     sym (refused-size (config p) (other p) (first p) (second p) (good-known t) h (λ q. c .if3 .taken (q ∙ sym (c .before .records-size .ensures))))
 
-compare-requires : tie.Need-compare-requires
-compare-requires c κs =
-    let s = c .before in
-    (good-known (tested s), (ap good (own-again (config (here s))) ∙ good-known (tested s), (size-known s, size-known s)))
+all-well-formed-requires : tie.Need-all-well-formed-requires
+all-well-formed-requires c κs = let s = c .before in (good-known (tested s), size-known s)
 
 returns-4 : tie.Need-returns-4
 returns-4 c =
-    let called = c .before .before in
-    let s = called .before .before in
+    let looked = c .before in
+    let s = looked .before .before in
     let p = here s in
     sym
     (refused-formed (config p) (other p) (first p) (second p) (good-known (tested s)) (other-known s) (size-known s)
-    (sym (self-formed (config p) (first p)) ∙ (sym (called .compare .ensures .formedness) ∙ not-true _ (c .if5 .taken))))
+    (sym (looked .all-well-formed .ensures) ∙ not-true _ (c .if5 .taken)))
 
 returns-5 : tie.Need-returns-5
 unfolding recordsSize withOwn
 returns-5 c =
-    let called = c .before .before in
-    let s = called .before .before in
+    let looked = c .before in
+    let s = looked .before .before in
     let p = here s in
     sym
     (refused-other-size (config p) (other p) (first p) (second p) (good-known (tested s)) (other-known s) (size-known s)
-    (sym (self-formed (config p) (first p)) ∙ (sym (called .compare .ensures .formedness) ∙ not-false _ (c .if5 .left)))
-    (λ q. called .before .if4 .taken (q ∙ sym (s .before .records-size .ensures))))
+    (sym (looked .all-well-formed .ensures) ∙ not-false _ (c .if5 .left)) (λ q. looked .before .if4 .taken (q ∙ sym (s .before .records-size .ensures))))
 
-compare-requires-2 : tie.Need-compare-requires-2
-compare-requires-2 c κs = (good-known (tested (sized c)), (other-known (sized c), (size-known (sized c), second-size c)))
+compare-requires : tie.Need-compare-requires
+compare-requires c κs = (good-known (tested (sized c)), (other-known (sized c), (size-known (sized c), second-size c)))
 
 returns-6 : tie.Need-returns-6
 returns-6 c =
@@ -152,7 +150,7 @@ returns-6 c =
     let p = here s in
     sym
     (refused-either (config p) (other p) (first p) (second p) (good-known (tested s)) (other-known s) (size-known s) (second-size-there (called .before))
-    (sym (called .compare2 .ensures .formedness) ∙ not-true _ (c .if6 .taken)))
+    (sym (called .compare .ensures .formedness) ∙ not-true _ (c .if6 .taken)))
 
 returns-7 : tie.Need-returns-7
 returns-7 c =
@@ -173,8 +171,8 @@ returns-8 c =
     let f = formed e in
     let called = e .before .before in
     ap done
-    (word-same (called .compare2 .result .named) (equivocates (config p) (other p) (first p) (second p)) 64 (le-of-eq refl) (omega (arith, called .compare2 .ok))
-    (λ u l. called .compare2 .ensures .naming (not-false _ (e .if6 .left)) u))
+    (word-same (called .compare .result .named) (equivocates (config p) (other p) (first p) (second p)) 64 (le-of-eq refl) (omega (arith, called .compare .ok))
+    (λ u l. called .compare .ensures .naming (not-false _ (e .if6 .left)) u))
     ∙ sym
     (names (config p) (other p) (first p) (second p) (good-known (tested s)) (other-known s) (size-known s) (f .0) (second-size-there b) (f .1)
     (c .if7 .left))
@@ -190,10 +188,10 @@ equivocators-spec =
     returns-2
     records-size-requires
     returns-3
-    compare-requires
+    all-well-formed-requires
     returns-4
     returns-5
-    compare-requires-2
+    compare-requires
     returns-6
     returns-7
     returns-8)
