@@ -89,12 +89,16 @@ pub fn check_equivocators(config: Config, other: u8, first: &[u8], second: &[u8]
     Verdict::Done
 }
 
-// Whether all records of a buffer are well-formed.
+// Whether all records of a buffer are well-formed. A good configuration has no more than 64 nodes; the compiler learns it by the
+// test, since this function is not joined to its callers, and leaves out a test of the sender for each record.
 fn all_well_formed(config: Config, records: &[u8]) -> bool
     requires { ⌜ good config ≡ true ⌝ }
     requires { ⌜ length (now records) ≡ recordsSize config ⌝ }
     ensures { λ r. ⌜ r ≡ allWellFormed config (now (records .entry)) ⌝ }
 {
+    if 64 < config.n {
+        return false;
+    }
     let mut sender = 0;
     while sender < config.n {
         if !sender_well_formed(config, sender, records) {
