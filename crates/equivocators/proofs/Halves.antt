@@ -25,8 +25,18 @@ use Rattle.record.specs.Inner.{heldBlock, HasState}
 use Rattle.record.proofs.Words.{Fits, blank-halves, blank-signers, empty-words, held-words, delivered-words}
 use Rattle.record.proofs.WellFormed.{noteFine, well-formed-empty, malformed-note, well-formed-has-state}
 use Rattle.equivocators.specs.Entries.{notedEntry}
-use Rattle.equivocators.specs.Inner.{entryOf, Distinct}
+use Rattle.equivocators.specs.Inner.{entryOf, WordsFit, Distinct}
 use Rattle.equivocators.proofs.Entries.{Alike}
+
+-- the words of a record, as record's laws have it
+pub words-fit : (r : Record) → WordsFit r → Fits r
+words-fit r (head, signers, held, noted, zero, aside) =
+    record {
+      head-fits = head;
+      signers-fits = signers;
+      payload-fits = record { high-fits = held .0; low-fits = held .1 };
+      note-fits = record { signers-fits = noted; zero-fits = zero; payload-fits = record { high-fits = aside .0; low-fits = aside .1 } };
+    }
 
 -- a note's entry
 note-alike : (n : Note) → note-words.Fits n → Alike (notedEntry (note.decoded (note.bytes n))) (entryOf (n .signers) (n .payload))

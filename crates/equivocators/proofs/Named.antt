@@ -12,7 +12,7 @@ use borrow.Author.Tests.{eqb-true, eqb-false, not-true, not-false}
 use Rattle.octets.specs.Octets.{same}
 use Rattle.octets.proofs.Same.{same-says, same-self}
 use Rattle.signers.specs.Signers.{member, within}
-use Rattle.signers.specs.Words.{wordOf}
+use Rattle.signers.specs.Words.{setWord}
 use Rattle.signers.proofs.Members.{nobody, same-members, within-lt, within-says, says-within, word-within, member-word}
 use Rattle.refusal.specs.Outcome.{done}
 use Rattle.refusal.proofs.Reasons.{done-clear}
@@ -30,7 +30,7 @@ use Rattle.calls.specs.Algorithm.{recordOf}
 use Rattle.calls.proofs.Records.{recordAt-length}
 use Rattle.equivocators.specs.Entries.{Entry, notedEntry, entries, signedBoth, signedTwo}
 use Rattle.equivocators.specs.Equivocators.{slotEntries, equivocates, equivocatorsReasons, equivocators}
-use Rattle.equivocators.specs.Named.{Stands, Equivocated, NamedExactly, NamedAreNodes, SenderNamed, EitherOrder}
+use Rattle.equivocators.specs.Named.{StandsInEither, Equivocated, NamedExactly, NamedAreNodes, SenderNamed, EitherOrder}
 use Rattle.equivocators.proofs.Entries.{Among, two-says, some-two}
 use Rattle.equivocators.proofs.Below.{some-below, below-some}
 use Rattle.equivocators.proofs.Refusals.{names}
@@ -93,12 +93,12 @@ record Compares (config : Config) (other : ℕ) (first second : List ℕ) (word 
   other-sized : length second ≡ recordsSize (withOwn config other)
   other-formed : allWellFormed (withOwn config other) second ≡ true
   apart : config .own ≡ other → ⊥
-  is-word : wordOf (equivocates config other first second) 64 ≡ word
+  is-word : setWord (equivocates config other first second) 64 ≡ word
 
 compares : (config : Config) (other : ℕ) (first second : List ℕ) (word : ℕ) → equivocators config other first second ≡ done word → Compares config other first second word
 unfolding equivocators equivocatorsReasons
 compares config other first second word e =
-    let (clear, is) = done-clear (equivocatorsReasons config other first second) (wordOf (equivocates config other first second) 64) word e in
+    let (clear, is) = done-clear (equivocatorsReasons config other first second) (setWord (equivocates config other first second) 64) word e in
     record {
       good-here = not-false _ (clear .0);
       good-there = not-false _ (clear .1 .0);
@@ -112,7 +112,7 @@ compares config other first second word e =
 
 module _ (config : Config) (other : ℕ) (first second : List ℕ) (word : ℕ) (c : Compares config other first second word) (node : ℕ) where
   -- every signer is a node, and the sender is among them
-  stands-known : (sender seq signers : ℕ) (payload : List ℕ) → sender < config .n → seq < slots → Stands config other first second sender seq signers payload
+  stands-known : (sender seq signers : ℕ) (payload : List ℕ) → sender < config .n → seq < slots → StandsInEither config other first second sender seq signers payload
       → (within signers (config .n) ≡ true) × (member signers sender ≡ true)
   unfolding withOwn slotOfDay
   stands-known sender seq signers payload s k (inl here) =
@@ -138,7 +138,7 @@ module _ (config : Config) (other : ℕ) (first second : List ℕ) (word : ℕ) 
       in-two sender seq s k e =
           let here = recordOf config (slotOfDay config sender seq) first in
           let there = recordOf (withOwn config other) (slotOfDay config sender seq) second in
-          let (a, b, pa, pb, both) = two-says (λ (x : Entry). member (x .signers) node ≡ true → Stands config other first second sender seq (x .signers) (x .payload)) node
+          let (a, b, pa, pb, both) = two-says (λ (x : Entry). member (x .signers) node ≡ true → StandsInEither config other first second sender seq (x .signers) (x .payload)) node
           (entries here ++ entries there) (
             (λ m. inl (held-stands node here m)),
             (
@@ -178,7 +178,7 @@ module _ (config : Config) (other : ℕ) (first second : List ℕ) (word : ℕ) 
       (some-two node a b _ (among (q .sender) (q .seq) (q .signers) (q .payload) (q .stands)) (among (q .sender) (q .seq) (q .others) (q .otherPayload) (q .otherStands))
       (and-eq-true-iff _ _ .1 (q .signed, and-eq-true-iff _ _ .1 (q .otherSigned, apart (q .payload) (q .otherPayload) (q .differ))))))
     where
-      among : (sender seq signers : ℕ) (payload : List ℕ) → Stands config other first second sender seq signers payload
+      among : (sender seq signers : ℕ) (payload : List ℕ) → StandsInEither config other first second sender seq signers payload
           → Among (record { signers = signers; payload = payload })
           (entries (recordOf config (slotOfDay config sender seq) first) ++ entries (recordOf (withOwn config other) (slotOfDay config sender seq) second))
       among sender seq signers payload (inl here) =
@@ -232,7 +232,7 @@ sender-named config other first second word e sender seq signers others payload 
 
 -- what stands in one of two buffers stands in one of them
 exchanged : (config : Config) (other : ℕ) (first second : List ℕ) (sender seq signers : ℕ) (payload : List ℕ)
-    → Stands (withOwn config other) (config .own) second first sender seq signers payload → Stands config other first second sender seq signers payload
+    → StandsInEither (withOwn config other) (config .own) second first sender seq signers payload → StandsInEither config other first second sender seq signers payload
 unfolding withOwn slotOfDay
 exchanged config other first second sender seq signers payload (inl there) = inr there
 exchanged config other first second sender seq signers payload (inr here) = inl here
@@ -261,7 +261,7 @@ pub either-order : EitherOrder
 unfolding withOwn
 either-order config other first second word e =
     let c = compares config other first second word e in
-    let back : ℕ = wordOf (equivocates (withOwn config other) (config .own) second first) 64 in
+    let back : ℕ = setWord (equivocates (withOwn config other) (config .own) second first) 64 in
     let is : equivocators (withOwn config other) (config .own) second first ≡ done back =
     names (withOwn config other) (config .own) second first (c .good-there) (c .good-here) (c .other-sized) (c .other-formed) (c .sized) (c .formed) (λ q. c .apart (sym q)) in
     is ∙ ap done (same-members back word 64 (within-lt back 64 (word-within (equivocates (withOwn config other) (config .own) second first) 64)) (fits c) (λ node l. same-bit back is node))

@@ -6,7 +6,7 @@ use mathlib.Core.List.{List}
 use Prim.Native.Nat.{ℕ}
 use lib.ListN.{length}
 use borrow.Author.Tests.{eq-eqb, ne-eqb}
-use Rattle.signers.specs.Words.{wordOf}
+use Rattle.signers.specs.Words.{setWord}
 use Rattle.refusal.specs.Outcome.{refused, done}
 use Rattle.refusal.proofs.Reasons.{passed, failed, pass, stop, clear-done}
 use Rattle.config.specs.declared.Config.{Config}
@@ -71,10 +71,10 @@ module _ (config : Config) (other : ℕ) (first second : List ℕ) where
                   ∙ (pass 20 _ _ (passed (eq-eqb _ _ r))
                   ∙ (pass 21 _ _ (passed f) ∙ (pass 20 _ _ (passed (eq-eqb _ _ q)) ∙ (pass 21 _ _ (passed k) ∙ stop 28 _ _ (eq-eqb _ _ e))))))
 
-              pub names : (config .own ≡ other → ⊥) → equivocators config other first second ≡ done (wordOf (equivocates config other first second) 64)
+              pub names : (config .own ≡ other → ⊥) → equivocators config other first second ≡ done (setWord (equivocates config other first second) 64)
               unfolding equivocators equivocatorsReasons
               names e =
-                  clear-done (equivocatorsReasons config other first second) (wordOf (equivocates config other first second) 64)
+                  clear-done (equivocatorsReasons config other first second) (setWord (equivocates config other first second) 64)
                   (passed g, (passed h, (passed (eq-eqb _ _ r), (passed f, (passed (eq-eqb _ _ q), (passed k, (ne-eqb _ _ e, tt)))))))
 
         -- some record of the two buffers is not

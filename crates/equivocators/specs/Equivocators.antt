@@ -5,7 +5,7 @@ use mathlib.Core.List.{List, [], _∷_, _++_}
 use Prim.Native.Nat.{ℕ, zero, suc}
 use lib.Dec.{eqb}
 use Rattle.signers.specs.Sets.{NodeSet}
-use Rattle.signers.specs.Words.{wordOf}
+use Rattle.signers.specs.Words.{setWord}
 use Rattle.refusal.specs.Refusal.{numberOf}
 use Rattle.refusal.specs.Outcome.{Outcome, refused, done, Reason, _if_, unless}
 use Rattle.config.specs.declared.Config.{Config}
@@ -47,7 +47,7 @@ module _ (config : Config) (other : ℕ) (first second : List ℕ) where
 
   -- R19.2: a word of 64 bits, in which each node that does so has its bit
   unfoldable pub equivocators : Outcome ℕ
-  equivocators = unless equivocatorsReasons (wordOf equivocates 64)
+  equivocators = unless equivocatorsReasons (setWord equivocates 64)
 
 -- the word of each case, or the number of the refusal (R17.3)
 abbrev pub namingOf : Naming → Outcome ℕ

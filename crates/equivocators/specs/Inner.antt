@@ -4,7 +4,7 @@ use mathlib.Core.Path.{_≡_}
 use mathlib.Core.Logic.{_⊎_}
 use mathlib.Core.Bool.{Bool, true, false, _&&_}
 use mathlib.Core.List.{List, [], _∷_, _++_}
-use Prim.Native.Nat.{ℕ}
+use Prim.Native.Nat.{ℕ, _<_, _^_}
 use Rattle.octets.specs.Octets.{same}
 use Rattle.payload.specs.declared.Payload.{Payload}
 use Rattle.payload.specs.Payload as payload
@@ -30,6 +30,15 @@ entryOf signers p = record { signers = signers; payload = payload.bytes p }
 
 abbrev pub signedBothBy : (signers : ℕ) → Payload → (others : ℕ) → Payload → NodeSet
 signedBothBy signers p others q = signedBoth (entryOf signers p) (entryOf others q)
+
+-- each word has 64 bits, as its type says
+abbrev pub PayloadFits : Payload → Type 0
+PayloadFits p = (p .high < 2 ^ 64) × (p .low < 2 ^ 64)
+
+abbrev pub WordsFit : Record → Type 0
+WordsFit r =
+    (r .head < 2 ^ 64) × (r .signers < 2 ^ 64) × PayloadFits (r .payload)
+    × (r .note .signers < 2 ^ 64) × (r .note .zero < 2 ^ 64) × PayloadFits (r .note .payload)
 
 -- both halves, also where nothing is held or noted
 abbrev pub halves : Record → List Entry

@@ -17,8 +17,8 @@ use Rattle.equivocators.specs.Equivocators.{equivocators}
 
 module _ (config : Config) (other : ℕ) (first second : List ℕ) where
   -- in the slot's record of the one or of the other buffer these signers stand beside this payload: held, delivered or noted
-  abbrev pub Stands : (sender seq signers : ℕ) (payload : List ℕ) → Type 0
-  Stands sender seq signers payload =
+  abbrev pub StandsInEither : (sender seq signers : ℕ) (payload : List ℕ) → Type 0
+  StandsInEither sender seq signers payload =
       Beside (recordOf config (slotOfDay config sender seq) first) signers payload
       ⊎ Beside (recordOf (withOwn config other) (slotOfDay config sender seq) second) signers payload
 
@@ -32,8 +32,8 @@ module _ (config : Config) (other : ℕ) (first second : List ℕ) where
     pub others : ℕ
     pub payload : List ℕ
     pub otherPayload : List ℕ
-    pub stands : Stands sender seq signers payload
-    pub otherStands : Stands sender seq others otherPayload
+    pub stands : StandsInEither sender seq signers payload
+    pub otherStands : StandsInEither sender seq others otherPayload
     pub signed : member signers node ≡ true
     pub otherSigned : member others node ≡ true
     pub differ : payload ≡ otherPayload → ⊥
@@ -54,7 +54,7 @@ abbrev pub SenderNamed : Type 0
 SenderNamed =
     (config : Config) (other : ℕ) (first second : List ℕ) (word : ℕ) → equivocators config other first second ≡ done word
     → (sender seq signers others : ℕ) (payload otherPayload : List ℕ) → sender < config .n → seq < slots
-    → Stands config other first second sender seq signers payload → Stands config other first second sender seq others otherPayload → (payload ≡ otherPayload → ⊥)
+    → StandsInEither config other first second sender seq signers payload → StandsInEither config other first second sender seq others otherPayload → (payload ≡ otherPayload → ⊥)
     → member word sender ≡ true
 
 -- R19.11: the second node's records first, and the first node's second.

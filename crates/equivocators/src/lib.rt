@@ -16,9 +16,8 @@ ghost use Rattle.refusal.specs.Outcome.{plain};
 ghost use Rattle.config.specs.Config.{good, slots, recordSize, recordsSize, withOwn};
 ghost use Rattle.record.specs.Record.{bytes};
 ghost use Rattle.calls.specs.WellFormed.{senderWellFormed, allWellFormed};
-ghost use Rattle.record.proofs.Words.{Fits};
 ghost use Rattle.equivocators.specs.Equivocators.{equivocators as equivocatorsOf, namingOf};
-ghost use Rattle.equivocators.specs.Inner.{Distinct, Names, signedBothBy, amongRecords, Compared, slotFormed, slotNames, senderFormed, senderNames, allFormed, allNames};
+ghost use Rattle.equivocators.specs.Inner.{WordsFit, Distinct, Names, signedBothBy, amongRecords, Compared, slotFormed, slotNames, senderFormed, senderNames, allFormed, allNames};
 
 // The nodes that are named, or why the records were not compared.
 pub enum Naming {
@@ -230,7 +229,7 @@ fn compare_slot(
 fn get(start: usize, records: &[u8]) -> Record
     requires { ⌜ start + recordSize ≤ length (now records) ⌝ }
     ensures { λ r. ⌜ bytes r ≡ part start recordSize (now (records .entry)) ⌝ }
-    ensures { λ r. ⌜ Fits r ⌝ }
+    ensures { λ r. ⌜ WordsFit r ⌝ }
 {
     record::load(&records[start..start + config::RECORD_SIZE])
 }

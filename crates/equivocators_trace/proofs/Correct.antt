@@ -11,7 +11,7 @@ use native.Mathlib.Nat.{le-trans}
 use native.Mathlib.Omega.{arith}
 use borrow.Author.Tests.{lt-ltb}
 use Rattle.signers.specs.Signers.{member, within}
-use Rattle.signers.specs.Words.{wordOf}
+use Rattle.signers.specs.Words.{setWord}
 use Rattle.signers.proofs.Counting.{count-mono}
 use Rattle.signers.proofs.Members.{within-lt, within-says, size-count}
 use Rattle.refusal.specs.Outcome.{done}
@@ -20,7 +20,7 @@ use Rattle.config.proofs.Laws.{in-range}
 use Rattle.protocol.specs.Trace.{Trace, start, _then_calls_}
 use Rattle.protocol.proofs.TraceLaws.{ever-grows, ever-mono}
 use Rattle.system.specs.Demand3.{Call, System, configAt, correct, recordsAfter, signs, buffer, ever, called, Lawful}
-use Rattle.system.specs.Order.{Orderly}
+use Rattle.system.specs.Order.{InOrder, Orderly}
 use Rattle.system.specs.Notes.{LawfulList}
 use Rattle.system.proofs.CommonConfig.{config-good}
 use Rattle.system.proofs.Simulation.{correct-below, lawful-order}
@@ -28,10 +28,10 @@ use Rattle.system.proofs.OrderlyRefusals.{records-well-formed}
 use Rattle.system.proofs.Notes.{assumed-lawful, worth-of-signers}
 use Rattle.system.proofs.Differences.{one-payload-held}
 use Rattle.equivocators.specs.Equivocators.{equivocates, equivocators}
-use Rattle.equivocators.specs.Named.{Stands, Equivocated}
+use Rattle.equivocators.specs.Named.{StandsInEither, Equivocated}
 use Rattle.equivocators.proofs.Refusals.{names}
 use Rattle.equivocators.proofs.Named.{named-exactly, named-are-nodes}
-use Rattle.equivocators_trace.specs.Correct.{NeverRefused, NamesNoCorrect, NamesFaulty, UpTo, NamesFaultyAnyTime}
+use Rattle.equivocators_trace.specs.Correct.{UpTo, NamesFaultyAtEnd, NamesFaulty, NeverRefused, NamesNoCorrect}
 
 -- ---- up to a call of the list
 
@@ -46,12 +46,20 @@ module _ (s : System) where
   ever-up-to test v (earlier then u calls call) part (inl is) e = subst (λ (p : Trace Call). ever s test p v ≡ true) is e
   ever-up-to test v (earlier then u calls call) part (inr before) e = ever-grows (s .buffers) (recordsAfter s) test earlier v u call (ever-up-to test v earlier part before e)
 
+  order-up-to : (list part : Trace Call) → UpTo list part → InOrder s list → InOrder s part
+  order-up-to start part is order = subst (InOrder s) (sym is) order
+  order-up-to (earlier then u calls call) part (inl is) order = subst (InOrder s) (sym is) order
+  order-up-to (earlier then u calls call) part (inr before) order = order-up-to earlier part before (order .0)
+
 whole : (list : Trace Call) → UpTo list list
 whole start = refl
 whole (earlier then u calls call) = inl refl
 
 lawful-part : (s : System) (list part : Trace Call) → UpTo list part → LawfulList s list → LawfulList s part
 lawful-part s list part up given = record { configured = given .configured; dated = given .dated; lawful = lawful-up-to s list part up (given .lawful) }
+
+orderly-part : (s : System) (list part : Trace Call) → UpTo list part → Orderly s list → Orderly s part
+orderly-part s list part up given = record { configured = given .configured; dated = given .dated; ordered = order-up-to s list part up (given .ordered) }
 
 ordered : (s : System) (list : Trace Call) → LawfulList s list → Orderly s list
 ordered s list given = record { configured = given .configured; dated = given .dated; ordered = lawful-order s list (given .lawful) }
@@ -66,13 +74,13 @@ unfolding configAt withOwn
 compared s one two first second u w known-u known-w differ called-u called-w =
     let here = records-well-formed s one first u known-u called-u in
     let there = records-well-formed s two second w known-w called-w in (
-      wordOf (equivocates (configAt s u) w (buffer s one u) (buffer s two w)) 64,
+      setWord (equivocates (configAt s u) w (buffer s one u) (buffer s two w)) 64,
       names (configAt s u) w (buffer s one u) (buffer s two w) (config-good s u (first .configured) known-u) (config-good s w (second .configured) known-w) (here .0) (here .1) (there .0)
           (there .1) differ,
     )
 
 pub never-refused : NeverRefused
-never-refused s list orderly = compared s list list orderly orderly
+never-refused s list orderly one two up-one up-two = compared s one two (orderly-part s list one up-one orderly) (orderly-part s list two up-two orderly)
 
 -- ---- no correct node
 
@@ -80,7 +88,7 @@ module _ (s : System) (list : Trace Call) (given : LawfulList s list) (one two :
     (fine-u : correct s u ≡ true) (fine-w : correct s w ≡ true) (called-u : called s one u ≡ true) (called-w : called s two w ≡ true) (v : ℕ) (fine : correct s v ≡ true) where
   -- a correct node that stands beside a payload in one of the two buffers has signed it, by a call of the list
   signed : (sender seq signers : ℕ) (payload : List ℕ) → inRange (s .shared) (slotOfDay (s .shared) sender seq) ≡ true
-      → Stands (configAt s u) w (buffer s one u) (buffer s two w) sender seq signers payload → member signers v ≡ true
+      → StandsInEither (configAt s u) w (buffer s one u) (buffer s two w) sender seq signers payload → member signers v ≡ true
       → ever s (signs s (slotOfDay (s .shared) sender seq) payload) list v ≡ true
   unfolding configAt withOwn slotOfDay
   signed sender seq signers payload inside (inl here) m =
@@ -111,8 +119,8 @@ module _ (s : System) (list : Trace Call) (given : LawfulList s list) (one two :
       go false m = refl
 
 pub names-no-correct : NamesNoCorrect
-names-no-correct s list given u w fine-u fine-w called-u called-w word e v fine =
-    not-named s list given list list (whole list) (whole list) u w fine-u fine-w called-u called-w v fine word e
+names-no-correct s list given one two up-one up-two u w fine-u fine-w called-u called-w word e v fine =
+    not-named s list given one two up-one up-two u w fine-u fine-w called-u called-w v fine word e
 
 -- ---- so whoever is named is faulty
 
@@ -125,9 +133,9 @@ not-correct s v known wrong = go (s .faulty v) refl
     go true e = refl
     go false e = absurd (wrong (rw (lt-ltb v (s .shared .n) known, e)))
 
-pub names-faulty-any-time : NamesFaultyAnyTime
+pub names-faulty : NamesFaulty
 unfolding configAt withOwn
-names-faulty-any-time s list assumed one two up-one up-two u w fine-u fine-w differ called-u called-w =
+names-faulty s list assumed one two up-one up-two u w fine-u fine-w differ called-u called-w =
     let given = assumed-lawful s list assumed in
     let (word, e) = compared s one two (ordered s one (lawful-part s list one up-one given)) (ordered s two (lawful-part s list two up-two given)) u w (correct-below s u fine-u)
     (correct-below s w fine-w) differ called-u called-w in
@@ -149,5 +157,5 @@ names-faulty-any-time s list assumed one two up-one up-two u w fine-u fine-w dif
               (λ fine. true≢false (sym m ∙ not-named s list (assumed-lawful s list assumed) one two up-one up-two u w fine-u fine-w called-u called-w v fine word e)),
         )
 
-pub names-faulty : NamesFaulty
-names-faulty s list assumed = names-faulty-any-time s list assumed list list (whole list) (whole list)
+pub names-faulty-at-end : NamesFaultyAtEnd
+names-faulty-at-end s list assumed = names-faulty s list assumed list list (whole list) (whole list)

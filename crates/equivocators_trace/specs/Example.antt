@@ -13,13 +13,13 @@ use Rattle.system.specs.Demand3.{Call, Open, Broadcast, configAt, correct, buff
 use Rattle.system.specs.Example.{six, first, firstSlot, twoPayloads, opened, list}
 use Rattle.system.specs.Notes.{LawfulList}
 use Rattle.system.specs.Tight.{AssumedBy, AtMostT, LawfulBy, RightLength, OpensFirstAndOnce, room, oneFaulty, forged, leftOver}
-use Rattle.equivocators_trace.specs.Correct.{equivocatorsAt}
+use Rattle.equivocators_trace.specs.Correct.{UpTo, equivocatorsAt}
 
 -- ---- the faulty sender
 
 -- Node 5 is faulty. In its slot, its first payload goes to 0, 1 and 2 and its second to 4, and that is all so far. Nodes 0 and 4 have one payload each, and note nothing;
--- side by side their records name node 5. At the end of the list nodes 0 and 4 have delivered the first payload and note the second, and name it too. Nodes 1 and 2
--- never heard of the second, and name nobody: a faulty node need not be named.
+-- side by side their records name node 5. At the end of the list nodes 0 and 4 have delivered the first payload and note the second, and name it too; so does what 0 had
+-- then beside what 4 has at the end. Nodes 1 and 2 never heard of the second, and name nobody: a faulty node need not be named.
 unfoldable pub soFar : Trace Call
 soFar = twoPayloads opened
 
@@ -30,12 +30,18 @@ node5 = 32
 abbrev pub FaultySenderNamed : Type 0
 FaultySenderNamed =
     Assumed six list
-    × LawfulList six soFar
+    × UpTo list soFar
+    × (called six soFar 0 ≡ true)
+    × (called six soFar 4 ≡ true)
+    × (correct six 0 ≡ true)
+    × (correct six 4 ≡ true)
+    × (six .faulty 5 ≡ true)
     × (noteOf (recordOf (configAt six 0) (firstSlot 5) (buffer six soFar 0)) ≡ Nothing)
     × (noteOf (recordOf (configAt six 4) (firstSlot 5) (buffer six soFar 4)) ≡ Nothing)
-    × (equivocatorsAt six soFar 0 4 ≡ done node5)
-    × (equivocatorsAt six list 0 4 ≡ done node5)
-    × (equivocatorsAt six list 1 2 ≡ done 0)
+    × (equivocatorsAt six soFar soFar 0 4 ≡ done node5)
+    × (equivocatorsAt six list list 0 4 ≡ done node5)
+    × (equivocatorsAt six soFar list 0 4 ≡ done node5)
+    × (equivocatorsAt six list list 1 2 ≡ done 0)
 
 -- ---- signatures (R14.6)
 
@@ -46,7 +52,7 @@ ForgedNamesCorrect =
     AssumedBy oneFaulty (AtMostT oneFaulty) (LawfulBy oneFaulty (RightLength oneFaulty) OpensFirstAndOnce (λ earlier node call. Unit) forged)
     × (called oneFaulty forged 0 ≡ true)
     × (called oneFaulty forged 1 ≡ true)
-    × (equivocatorsAt oneFaulty forged 0 1 ≡ done 15)
+    × (equivocatorsAt oneFaulty forged forged 0 1 ≡ done 15)
     × (correct oneFaulty 0 ≡ true)
     × (correct oneFaulty 1 ≡ true)
     × (correct oneFaulty 2 ≡ true)
@@ -61,5 +67,5 @@ abbrev pub UnopenedNamesCorrect : Type 0
 UnopenedNamesCorrect =
     LawfulList leftOver oneCalled
     × (called leftOver oneCalled 1 ≡ false)
-    × (equivocatorsAt leftOver oneCalled 0 1 ≡ done 1)
+    × (equivocatorsAt leftOver oneCalled oneCalled 0 1 ≡ done 1)
     × (correct leftOver 0 ≡ true)

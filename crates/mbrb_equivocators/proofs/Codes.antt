@@ -4,7 +4,7 @@ use mathlib.Core.Bool.{true, true≢false}
 use Prim.Native.Nat.{ℕ}
 use Rattle.refusal.specs.Outcome.{Outcome, refused, done, plain}
 use Rattle.refusal.proofs.Reasons.{Comes, unless-comes}
-use Rattle.signers.specs.Words.{wordOf}
+use Rattle.signers.specs.Words.{setWord}
 use Rattle.mbrb.specs.Code.{openedCode, listed}
 use Rattle.equivocators.specs.Equivocators.{equivocates, equivocatorsReasons, equivocators}
 use Rattle.mbrb_equivocators.specs.Code.{namedWord, checkCode, equivocatorsRefusals, RefusalsListed, WordNeedsNoCheck}
@@ -13,7 +13,7 @@ pub refusals-listed : RefusalsListed
 unfolding equivocators equivocatorsReasons listed equivocatorsRefusals
 refusals-listed config other first second number is =
     subst (Comes (listed equivocatorsRefusals) (λ (word : ℕ). Unit)) is
-    (unless-comes (listed equivocatorsRefusals) (λ (word : ℕ). Unit) (equivocatorsReasons config other first second) (wordOf (equivocates config other first second) 64) refl tt)
+    (unless-comes (listed equivocatorsRefusals) (λ (word : ℕ). Unit) (equivocatorsReasons config other first second) (setWord (equivocates config other first second) 64) refl tt)
 
 -- 0 is no refusal
 not-listed : (number : ℕ) → number ≡ 0 → listed equivocatorsRefusals number ≡ true → ⊥

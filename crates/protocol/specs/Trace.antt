@@ -12,7 +12,7 @@ pub data Trace (Call : Type 0) : Type 0 where
   start : Trace Call
   _then_calls_ : (earlier : Trace Call) (node : ℕ) (call : Call) → Trace Call
 
--- The test passes at each of the nodes 0 to n - 1.
+-- The test passes for each number 0 to n - 1, of nodes for the most part.
 unfoldable pub each : (test : (node : ℕ) → Bool) (n : ℕ) → Bool
 each test zero = true
 each test (suc n) = test n && each test n

@@ -44,7 +44,7 @@ numberOf NoFreeSlot = 25
 numberOf NotDelivered = 26
 -- fewer than 2t + 1 senders have a delivered setpoint
 numberOf TooFewSetpoints = 27
--- the two buffers of records are of one node
+-- both own numbers are the same
 numberOf SameNode = 28
 
 -- the outcome that a verdict tells (R17.3): the number of its reason, or that the work is done

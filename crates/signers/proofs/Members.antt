@@ -15,7 +15,7 @@ use lib.Dec.{ltb, leb, eqb, leb·suc-suc, eqb·suc-suc, eqb·zero-suc, eqb·suc-
 use lib.Pow.{pow-pos, pow-mono, pow-lt, shr-shr, shl-exact, ones-split, ones-lt, high, le-ones, lt-of-le-ones}
 use Rattle.signers.specs.Sets.{NodeSet, indicator, count, both, either}
 use Rattle.signers.specs.Signers.{member, insert, without, union, common, size, meets, below, within}
-use Rattle.signers.specs.Words.{wordOf}
+use Rattle.signers.specs.Words.{setWord}
 use Rattle.signers.proofs.Counting.{count-same, count-mono, count-none, count-single, count-some, count-first, count-either, quorums-share-correct}
 
 -- ---- the bits of a word
@@ -276,34 +276,34 @@ within-insert a v n h l = go (ltb v 64)
 
 -- ---- the word of a set
 
-pub word-within : (p : NodeSet) (n : ℕ) → within (wordOf p n) n ≡ true
-unfolding wordOf
+pub word-within : (p : NodeSet) (n : ℕ) → within (setWord p n) n ≡ true
+unfolding setWord
 word-within p zero = lt-within 0 0 (pow-pos 0)
 word-within p (suc n) =
-    go (lt-within (wordOf p n) (suc n) (lt-of-lt-of-le (within-lt (wordOf p n) n (word-within p n)) (pow-mono (omega arith)))) (p n)
+    go (lt-within (setWord p n) (suc n) (lt-of-lt-of-le (within-lt (setWord p n) n (word-within p n)) (pow-mono (omega arith)))) (p n)
   where
-    go : within (wordOf p n) (suc n) ≡ true → (m : Bool) → within (cond m (insert (wordOf p n) n) (wordOf p n)) (suc n) ≡ true
-    go wider true = within-insert (wordOf p n) n (suc n) wider (lt-suc-self n)
+    go : within (setWord p n) (suc n) ≡ true → (m : Bool) → within (cond m (insert (setWord p n) n) (setWord p n)) (suc n) ≡ true
+    go wider true = within-insert (setWord p n) n (suc n) wider (lt-suc-self n)
     go wider false = wider
 
 -- its members are those of the set
-pub member-word : (p : NodeSet) (n u : ℕ) → n ≤ 64 → u < n → member (wordOf p n) u ≡ p u
-unfolding wordOf
+pub member-word : (p : NodeSet) (n u : ℕ) → n ≤ 64 → u < n → member (setWord p n) u ≡ p u
+unfolding setWord
 member-word p zero u most h = absurd (omega arith)
 member-word p (suc n) u most h = go (p n) refl (eqb u n) refl (λ l. member-word p n u (omega arith) l)
   where
-    go : (m : Bool) → p n ≡ m → (e : Bool) → eqb u n ≡ e → (u < n → member (wordOf p n) u ≡ p u) → member (cond m (insert (wordOf p n) n) (wordOf p n)) u ≡ p u
-    go true is true here below = rw (eqb-true u n here) (insert-own (wordOf p n) n (omega arith) ∙ sym is)
+    go : (m : Bool) → p n ≡ m → (e : Bool) → eqb u n ≡ e → (u < n → member (setWord p n) u ≡ p u) → member (cond m (insert (setWord p n) n) (setWord p n)) u ≡ p u
+    go true is true here below = rw (eqb-true u n here) (insert-own (setWord p n) n (omega arith) ∙ sym is)
     go true is false here below =
         let other = eqb-false u n here in
-        member-insert (wordOf p n) n u (omega arith) ∙ rw here (or-false (member (wordOf p n) u) ∙ below (lt-of-le-ne (omega arith) other))
-    go false is true here below = rw (eqb-true u n here) (member-below (wordOf p n) n n (within-lt (wordOf p n) n (word-within p n)) (omega arith) ∙ sym is)
+        member-insert (setWord p n) n u (omega arith) ∙ rw here (or-false (member (setWord p n) u) ∙ below (lt-of-le-ne (omega arith) other))
+    go false is true here below = rw (eqb-true u n here) (member-below (setWord p n) n n (within-lt (setWord p n) n (word-within p n)) (omega arith) ∙ sym is)
     go false is false here below = let other = eqb-false u n here in below (lt-of-le-ne (omega arith) other)
 
 -- and a word that has them is that one
-pub word-same : (a : ℕ) (p : NodeSet) (n : ℕ) → n ≤ 64 → a < 2 ^ n → ((u : ℕ) → u < n → member a u ≡ p u) → a ≡ wordOf p n
+pub word-same : (a : ℕ) (p : NodeSet) (n : ℕ) → n ≤ 64 → a < 2 ^ n → ((u : ℕ) → u < n → member a u ≡ p u) → a ≡ setWord p n
 word-same a p n most h same =
-    same-members a (wordOf p n) n h (within-lt (wordOf p n) n (word-within p n)) (λ u l. same u l ∙ sym (member-word p n u most l))
+    same-members a (setWord p n) n h (within-lt (setWord p n) n (word-within p n)) (λ u l. same u l ∙ sym (member-word p n u most l))
 
 -- ---- sizes
 

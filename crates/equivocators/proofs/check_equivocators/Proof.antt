@@ -6,7 +6,7 @@ use Prim.Native.Nat.{ℕ}
 use lib.ListN.{length}
 use borrow.Author.Needs.{needs}
 use borrow.Author.Tests.{not-true, not-false}
-use Rattle.refusal.specs.Outcome.{Outcome, plain}
+use Rattle.refusal.specs.Outcome.{plain}
 use Rattle.config.specs.declared.Config.{Config}
 use Rattle.config.specs.Config.{good, withOwn, recordsSize}
 use Rattle.calls.specs.WellFormed.{allWellFormed}

@@ -15,7 +15,7 @@ use Rattle.record.specs.declared.Record.{Record}
 use Rattle.record.specs.Record.{bytes, wellFormed}
 use Rattle.calls.specs.Records.{recordAt}
 use Rattle.calls.specs.WellFormed.{slotWellFormed}
-use Rattle.equivocators.proofs.Halves.{distinct}
+use Rattle.equivocators.proofs.Halves.{words-fit, distinct}
 use Rattle.equivocators.proofs.Slots.{room, record-there, formed-there, names-there}
 use Rattle.equivocators.proofs.compare_slot.Statement.{statement}
 use Rattle.equivocators.proofs.compare_slot.Tie as tie
@@ -175,8 +175,8 @@ among-requires : tie.Need-among-requires
 among-requires c κs =
     let there-at = c .before in
     let here-at = tested there-at in (
-      distinct (here here-at) (here-at .before .get .ensures .1) (config (at there-at)) (sender (at there-at)) (sym (here-at .well-formed .ensures) ∙ not-false _ (there-at .before .before .before .if1 .left)),
-      distinct (there there-at) (there-at .before .before .get2 .ensures .1) (withOwn (config (at there-at)) (other (at there-at))) (sender (at there-at)) (sym (there-is there-at) ∙ not-false _ (c .if2 .left)),
+      distinct (here here-at) (words-fit (here here-at) (here-at .before .get .ensures .1)) (config (at there-at)) (sender (at there-at)) (sym (here-at .well-formed .ensures) ∙ not-false _ (there-at .before .before .before .if1 .left)),
+      distinct (there there-at) (words-fit (there there-at) (there-at .before .before .get2 .ensures .1)) (withOwn (config (at there-at)) (other (at there-at))) (sender (at there-at)) (sym (there-is there-at) ∙ not-false _ (c .if2 .left)),
     )
 
 returns-3 : tie.Need-returns-3
@@ -191,7 +191,7 @@ returns-3 c =
       formedness = sym (ap₂ _&&_ (sym (here-formed here-at) ∙ one) (sym (there-formed there-at) ∙ two));
       naming = λ e node.
           c .among .ensures node
-          ∙ names-there (config p) (other p) (first p) (second p) (sender p) (seq p) (here here-at) (there there-at) (here-at .before .get .ensures .1) (there-at .before .before .get2 .ensures .1)
+          ∙ names-there (config p) (other p) (first p) (second p) (sender p) (seq p) (here here-at) (there there-at) (words-fit (here here-at) (here-at .before .get .ensures .1)) (words-fit (there there-at) (there-at .before .before .get2 .ensures .1))
           (here-there here-at) (there-there there-at) (sym (here-at .well-formed .ensures) ∙ one) (sym (there-is there-at) ∙ two) node;
     }
 

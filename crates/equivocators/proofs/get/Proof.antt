@@ -26,12 +26,7 @@ returns : tie.Need-returns
 returns c =
     let start = c .before .before .before in (
       c .load .ensures ∙ loaded-part (start .args .records .now) (start .args .start) (start .pre),
-      record {
-        head-fits = omega arith;
-        signers-fits = omega arith;
-        payload-fits = record { high-fits = omega arith; low-fits = omega arith };
-        note-fits = record { signers-fits = omega arith; zero-fits = omega arith; payload-fits = record { high-fits = omega arith; low-fits = omega arith } };
-      },
+      (omega arith, omega arith, (omega arith, omega arith), omega arith, omega arith, (omega arith, omega arith)),
     )
 
 pub get-spec : {M : Type 1} → statement M

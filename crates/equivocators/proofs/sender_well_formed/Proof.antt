@@ -12,7 +12,6 @@ use Rattle.config.specs.declared.Config.{Config}
 use Rattle.config.specs.Config.{slots, slotOfDay, slotPlace, recordSize}
 use Rattle.protocol.specs.Trace.{each}
 use Rattle.protocol.proofs.ComputedTests.{each-next, each-fails}
-use Rattle.record.specs.Record.{bytes}
 use Rattle.calls.specs.WellFormed.{slotWellFormed, senderWellFormed}
 use Rattle.equivocators.proofs.Slots.{room, formed-there}
 use Rattle.equivocators.proofs.sender_well_formed.Statement.{statement}

@@ -1,6 +1,5 @@
 -- `mbrb_check_equivocators` meets its contract: it is the check on the configuration that the six numbers give. Assumes nothing.
 use mathlib.Core.Path.{ap, _∙_}
-use Rattle.refusal.specs.Outcome.{plain}
 use Rattle.config.specs.declared.Config.{Config}
 use Rattle.mbrb.specs.Code.{openedCode}
 use Rattle.equivocators.specs.Equivocators.{equivocators}
