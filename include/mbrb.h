@@ -241,7 +241,7 @@
  *   - Memory: MBRB_RECORDS_SIZE(n) bytes of records, which the host gives. The library allocates nothing and keeps no
  *     data of its own.
  *   - Stack: 72 bytes for mbrb_broadcast, 104 for mbrb_receive, 104 for mbrb_preview, 24 for mbrb_open, 240 for
- *     mbrb_setpoint, 384 for mbrb_equivocators, 384 for mbrb_check_equivocators, whatever they are given; and below
+ *     mbrb_setpoint, 313 for mbrb_equivocators, 169 for mbrb_check_equivocators, whatever they are given; and below
  *     mbrb_open what the host's memset takes. Besides, up to 48 bytes of arguments that the caller puts there. Each
  *     figure is the deepest chain of frames in the machine code, return addresses included: tests/call_graph adds them
  *     up, and tests/footprint sees the same on a stack that was painted before.
@@ -250,16 +250,14 @@
  *     program which is proved and that of the machine code. The memset below mbrb_open is the host's, and not looked
  *     into.
  *   - Code: 1,511 bytes for mbrb_open and mbrb_receive, 625 more where mbrb_broadcast is used, 1,183 more where
- *     mbrb_preview is, 872 more where mbrb_setpoint is, and 2,029 more where mbrb_equivocators or
- *     mbrb_check_equivocators is, of which 76 are constants: there are four more members in the library, and a host
- *     that calls nothing of one does not link it. The one symbol that the library takes from the host is memset, for
- *     mbrb_open.
- *   - Registers: no floating-point register is used, and of the vector registers xmm0 by mbrb_broadcast, mbrb_receive
- *     and mbrb_setpoint, xmm0 and xmm1 by mbrb_equivocators and mbrb_check_equivocators. The first two clear the second
- *     half of a record by it, the third 128 bytes of its stack; the last two copy by them where their buffers lie. So
- *     call these five only where vector registers are saved for what they interrupt.
+ *     mbrb_preview is, 872 more where mbrb_setpoint is, and 2,522 more where mbrb_equivocators or
+ *     mbrb_check_equivocators is: there are four more members in the library, and a host that calls nothing of one does
+ *     not link it. The one symbol that the library takes from the host is memset, for mbrb_open.
+ *   - Registers: no floating-point register is used, and of the vector registers xmm0 alone, by mbrb_broadcast,
+ *     mbrb_receive and mbrb_setpoint. The first two clear the second half of a record by it, the third 128 bytes of its
+ *     stack. So call these three only where vector registers are saved for what they interrupt.
  *   - mbrb_receive uses 48 bytes below the stack pointer (the red zone of the calling convention), mbrb_broadcast 16,
- *     mbrb_preview 48, mbrb_setpoint 128, mbrb_equivocators 128 and mbrb_check_equivocators 128, counted above. Where
+ *     mbrb_preview 48, mbrb_setpoint 128, mbrb_equivocators 17 and mbrb_check_equivocators 17, counted above. Where
  *     interrupts run on the stack of what they interrupt, they must leave the 128 bytes below it alone, as the
  *     convention asks.
  *   - Time: mbrb_open and mbrb_setpoint go through all records, mbrb_equivocators and mbrb_check_equivocators through
@@ -406,15 +404,16 @@
  * Where a slot has two bodies its sender is always named, since no body stands in a sound record without the sender's
  * bit. The word is no code: 1 names unit 0. It is 0 where nobody is named, and also where nothing is compared; which of
  * the two it is, mbrb_check_equivocators tells for the same arguments, by MBRB_COMPARED or the refusal. So ask for the
- * word first, and if it is 0 for the code.
+ * word first, and if it is 0 for the code. Where nothing is refused the code costs less than the word: all records are
+ * tested for it, and nobody is looked for.
  *
  * What it proves:
  *   - If the bits of both records are true (section 6), a named unit, or whoever has its key, has signed two bodies in
  *     one slot.
  *   - From two sound units that have opened the day, in a cascade that keeps to this page, nothing is refused and no
  *     sound unit is named. So those that are named are faulty, and they are t at most. Where more than t are named,
- *     something is wrong with what was compared: the copies are of two days, or one of the two units is faulty, or more
- *     than t units are.
+ *     something is wrong with what was compared: the copies are of two days, or one is damaged in a way that 21 does
+ *     not see, or has bits that are not true (section 6), or one of the two units is faulty, or more than t units are.
  * What it does not prove:
  *   - That a unit which is not named is sound. It may be silent, or wrong in what it says to all alike; or its two
  *     bodies have not met in these records, and meet in those of another pair.

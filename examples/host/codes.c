@@ -781,26 +781,32 @@ static void names(void)
     }
 }
 
-/* Two bodies of unit 0 that differ in one bit, for each of the 128: one at each unit, and both with us. */
+/* Two bodies of unit 0 that differ in one bit, for each of the 128: one at each unit, and both with us. Each word is compared; one that is not as
+ * expected is kept, and told. */
 static void names_by_a_bit(void)
 {
     static const struct heard both[] = {{2, 0, 0, 1, 'a', MBRB_SIGNED}, {1, 0, 0, 1, 'a', MBRB_SIGNED}, {0}};
-    uint64_t across = UINT64_MAX, within = UINT64_MAX;
+    const uint64_t expected = 1;
+    uint64_t across = expected, within = expected;
 
     for (int bit = 0; bit < 8 * MBRB_BODY_SIZE; bit++) {
         const uint8_t changed = (uint8_t)('a' ^ 1u << bit % 8);
+        uint64_t named;
+
         play_both(both);
         bring(1, 'a');
         bundle[MBRB_BODY_AT + bit / 8] = changed;
         if (take_by(site_of(1), sizeof bundle, SITE_RECORDS, sizeof out) != MBRB_NOTED)
             within = 0;
-        within &= named_on(7);
+        named = named_on(7);
+        within = named == expected ? within : named;
         play_both(both);
         seconds[MBRB_RECORD_AT(0, 0) + MBRB_BODY_AT + bit / 8] = changed;
-        across &= named_on(7);
+        named = named_on(7);
+        across = named == expected ? across : named;
     }
-    told_named("a held by us, and a with one bit changed by unit 2, for each of the 128 bits", 1, across);
-    told_named("a held by us, and a with one bit changed noted, for each of the 128 bits", 1, within);
+    told_named("a held by us, and a with one bit changed by unit 2, for each of the 128 bits", expected, across);
+    told_named("a held by us, and a with one bit changed noted, for each of the 128 bits", expected, within);
 }
 
 /* Unit 0 is sound: it announced a on day 7, and b on day 8, each under number 0. No call can know. */

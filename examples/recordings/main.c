@@ -153,8 +153,12 @@ static void compare(const struct recording *first, const struct recording *secon
     uint32_t code;
 
     printf("units %d and %d: ", first->own, second->own);
-    if (first->day != second->day || first->quorum != second->quorum) {
+    if (first->day != second->day) {
         puts("not compared, the copies are of two days");
+        return;
+    }
+    if (first->quorum != second->quorum) {
+        puts("not compared, the copies have two quorums");
         return;
     }
     named = mbrb_equivocators(UNITS, FAULTS, LOSSES, first->own, first->day, first->quorum, second->own,
@@ -254,11 +258,14 @@ int main(void)
     compare(&at_noon[0], &at_noon[1]);
     compare(&at_noon[1], &at_noon[2]);
 
-    puts("\nThe copy of unit 1 is given twice; then a copy of unit 2 with a wrong byte in it.");
+    puts("\nThe copy of unit 1 is given twice; then a copy of unit 2 with a wrong byte in it, and one with a wrong quorum on it.");
     compare(&at_noon[1], &at_noon[1]);
     damaged = at_noon[2];
     damaged.records[MBRB_RECORD_AT(LIAR, 0)] = MBRB_RECORD_EMPTY; /* although a body stands there */
     compare(&at_noon[1], &damaged);
+    mislabelled = at_noon[2];
+    mislabelled.quorum++;
+    compare(&at_noon[1], &mislabelled);
 
     take(0, out[2], MBRB_NOTED);
     puts("\nDay 7, evening. What unit 2 had sent has come to unit 0, which is copied again.");
