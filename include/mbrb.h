@@ -382,10 +382,10 @@
  * 14. Two units' recordings side by side
  *
  * A faulty unit can say one thing to some units and another to others, and perhaps none of them hears both. Their
- * records have it all the same: mbrb_equivocators is given those of two units and names each unit that signed two
- * bodies in one slot. It is for whoever has recordings, which are copies of units' records: a site engineer with a
- * laptop after a service visit, or a host to which copies come over the network. No unit needs it for its day.
- * examples/recordings is a program to start from, with a page for site engineers.
+ * records have it all the same: mbrb_equivocators is given those of two units and names each unit whose bit stands in
+ * them beside two bodies of one slot. It is for whoever has recordings, which are copies of units' records: a site
+ * engineer with a laptop after a service visit, or a host to which copies come over the network. No unit needs it for
+ * its day. examples/recordings is a program to start from, with a page for site engineers.
  *
  * What it is given: one table, and the records of two units, `first` of the unit with the number `own` and `second` of
  * that with the number `other`. Which of the two comes first changes nothing in who is named.
@@ -399,8 +399,8 @@
  *     day. On copies there is nothing to lock, to save or to send.
  *
  * What comes out is a word of bits, as in a bundle: unit u is the bit of weight 2 to the power u, and
- * MBRB_IS_NAMED(word, u) reads it. Unit u is named exactly if there is a slot in which its bit stands beside two
- * different bodies, anywhere in the records of the two: held, delivered or noted, each at another unit or both at one.
+ * MBRB_IS_NAMED(word, u) reads it. A slot has two records here, and each may have a body that is held or delivered and
+ * one that is noted. Unit u is named exactly if in some slot it is a signer of two of these four, and they differ.
  * Where a slot has two bodies its sender is always named, since no body stands in a sound record without the sender's
  * bit. The word is no code: 1 names unit 0. It is 0 where nobody is named, and also where nothing is compared; which of
  * the two it is, mbrb_check_equivocators tells for the same arguments, by MBRB_COMPARED or the refusal. So ask for the
@@ -578,9 +578,9 @@ uint32_t mbrb_preview(uint8_t n, uint8_t t, uint8_t d, uint8_t own, uint32_t day
 uint32_t mbrb_setpoint(uint8_t n, uint8_t t, uint8_t d, uint8_t own, uint32_t day, uint32_t quorum,
                        const uint8_t *records, size_t records_len);
 
-/* For whoever has the records of two units, of one day: names those that signed two bodies in one slot, a bit for each
- * unit. `first` are the records of unit `own`, and `second` those of unit `other`. It gives 0 where nobody is named,
- * and where nothing is compared. Nothing is written (section 14). */
+/* For whoever has the records of two units, of one day: names those whose bit stands in them beside two bodies of one
+ * slot, a bit for each unit. `first` are the records of unit `own`, and `second` those of unit `other`. It gives 0 where
+ * nobody is named, and where nothing is compared. Nothing is written (section 14). */
 uint64_t mbrb_equivocators(uint8_t n, uint8_t t, uint8_t d, uint8_t own, uint32_t day, uint32_t quorum, uint8_t other,
                            const uint8_t *first, size_t first_len,
                            const uint8_t *second, size_t second_len);

@@ -29,7 +29,7 @@ module _ (config : Config) (other : ℕ) (first second : List ℕ) where
   slotEntries sender seq =
       entries (recordOf config (slotOfDay config sender seq) first) ++ entries (recordOf (withOwn config other) (slotOfDay config sender seq) second)
 
-  -- R19.2: in some slot, the node stands in two places beside two different payloads
+  -- R19.2: in some slot, the node stands in two halves beside two different payloads
   unfoldable pub equivocates : NodeSet
   equivocates node = someBelow (λ sender. someBelow (λ seq. signedTwo (slotEntries sender seq) node) slots) (config .n)
 

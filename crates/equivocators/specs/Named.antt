@@ -1,5 +1,5 @@
--- R19.2, read back: a node has its bit exactly if, in some slot, it is a signer beside two different payloads, anywhere in the two buffers. Every node that is named is
--- one of the n (R19.5); where a slot has two payloads its sender is named (R19.10); and which buffer comes first does not matter (R19.11). They are proved in
+-- R19.2, read back: a node has its bit exactly if it is a signer in two of the four halves of some slot's records, and the payloads there differ. Every node that is
+-- named is one of the n (R19.5); where a slot has two payloads its sender is named (R19.10); and which buffer comes first does not matter (R19.11). They are proved in
 -- proofs/Named.antt.
 -- Assumes nothing.
 use mathlib.Core.Path.{_≡_}

@@ -1,6 +1,7 @@
-// RULES section 19: two nodes' records side by side. A node is named where it has signed two payloads in one slot.
+// RULES section 19: two nodes' records side by side. A node is named where its bit stands beside two payloads of one slot.
 //
-// A correct node signs one payload in a slot (R14.22). So a node that is named is faulty, if both buffers were kept by correct nodes.
+// A correct node signs one payload in a slot (R14.22). So on the lists of section 14 a node that correct nodes' records name is
+// faulty (R19.7).
 use config::Config;
 use payload::Payload;
 use record::Record;
@@ -25,7 +26,7 @@ pub enum Naming {
     Refused(Refusal),
 }
 
-// R19.2 to R19.4: which nodes have signed two payloads in one slot, by the records of two nodes: those of `config` in `first` and
+// R19.2 to R19.4: whose bit stands beside two payloads of one slot in the records of two nodes: those of `config` in `first` and
 // those of `other`, in the same system and on the same day, in `second`. Both are lent for reading. Each record of both is tested
 // and compared in one pass.
 pub fn equivocators(config: Config, other: u8, first: &[u8], second: &[u8]) -> Naming
@@ -58,15 +59,16 @@ pub fn equivocators(config: Config, other: u8, first: &[u8], second: &[u8]) -> N
     Naming::Named(comparison.named)
 }
 
-// R11.7: why the records of two nodes are not compared, if they are not. Nobody is looked for, so that it costs less.
+// R11.7: why the records of two nodes are not compared, if they are not. Nobody is looked for, so that it costs less where nothing is
+// refused.
 pub fn check_equivocators(config: Config, other: u8, first: &[u8], second: &[u8]) -> Verdict
     ensures { λ r. ⌜ verdictOf r ≡ plain (equivocatorsOf config other (now (first .entry)) (now (second .entry))) ⌝ }
 {
     if !config.good() {
         return Verdict::Refused(Refusal::BadConfig);
     }
-    let there = config.with_own(other);
-    if !there.good() {
+    let other_config = config.with_own(other);
+    if !other_config.good() {
         return Verdict::Refused(Refusal::BadConfig);
     }
     let size = config.records_size();
@@ -79,7 +81,7 @@ pub fn check_equivocators(config: Config, other: u8, first: &[u8], second: &[u8]
     if second.len() != size {
         return Verdict::Refused(Refusal::RecordsLength);
     }
-    if !all_well_formed(there, second) {
+    if !all_well_formed(other_config, second) {
         return Verdict::Refused(Refusal::MalformedRecord);
     }
     if config.own == other {
@@ -273,10 +275,10 @@ fn among(here: Record, there: Record) -> u64
 }
 
 // Who has signed both payloads, if they differ.
-fn signed_both(signers: u64, payload: Payload, others: u64, other: Payload) -> u64
-    ensures { λ r. ⌜ Names (signedBothBy signers payload others other) r ⌝ }
+fn signed_both(signers: u64, payload: Payload, others: u64, second: Payload) -> u64
+    ensures { λ r. ⌜ Names (signedBothBy signers payload others second) r ⌝ }
 {
-    if payload.equals(other) {
+    if payload.equals(second) {
         return 0;
     }
     signers::common(signers, others)

@@ -68,7 +68,7 @@ early = is-part 39 list
 
 pub faulty-sender-named : FaultySenderNamed
 unfolding lists-compute correct trace.ever
-faulty-sender-named = (not-vacuous .0, early, refl, refl, refl, refl, refl, refl, refl, so-far, at-end, between, nobody-named)
+faulty-sender-named = (not-vacuous .0, early, refl, refl, refl, refl, refl, refl, refl, so-far, at-end, between, refl, refl, refl, refl, nobody-named)
 
 -- ---- signatures
 
@@ -92,4 +92,4 @@ lawful = refl
 
 pub unopened-names-correct : UnopenedNamesCorrect
 unfolding lists-compute correct trace.ever
-unopened-names-correct = (record { configured = refl; dated = lit< tt; lawful = lawful-says leftOver oneCalled lawful }, refl, node-0-named, refl)
+unopened-names-correct = (record { configured = refl; dated = lit< tt; lawful = lawful-says leftOver oneCalled lawful }, refl, node-0-named, refl, refl)

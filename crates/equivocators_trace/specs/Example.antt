@@ -1,5 +1,5 @@
 -- R19.9: what R19.7 says is not empty, and its hypotheses matter. On the list of system's specs/Example.antt, which meets all that demand 3 assumes, the faulty sender is
--- named; before anybody has noted anything it is named by two nodes' records together; and two nodes that heard one payload name nobody. With forged signatures, and
+-- named; before anybody has noted anything it is named by two nodes' records together; and two nodes that note nothing name nobody. With forged signatures, and
 -- with records of a node that has not opened the day, correct nodes are named. They are proved in proofs/Example.antt, by lists that are written out and computed.
 -- Assumes nothing.
 use mathlib.Core.Path.{_≡_}
@@ -19,7 +19,8 @@ use Rattle.equivocators_trace.specs.Correct.{UpTo, equivocatorsAt}
 
 -- Node 5 is faulty. In its slot, its first payload goes to 0, 1 and 2 and its second to 4, and that is all so far. Nodes 0 and 4 have one payload each, and note nothing;
 -- side by side their records name node 5. At the end of the list nodes 0 and 4 have delivered the first payload and note the second, and name it too; so does what 0 had
--- then beside what 4 has at the end. Nodes 1 and 2 never heard of the second, and name nobody: a faulty node need not be named.
+-- then beside what 4 has at the end. Nodes 1 and 2 had delivered the first when the second reached them; they refuse it by 22,
+-- note nothing, and name nobody: a faulty node need not be named.
 unfoldable pub soFar : Trace Call
 soFar = twoPayloads opened
 
@@ -41,6 +42,10 @@ FaultySenderNamed =
     × (equivocatorsAt six soFar soFar 0 4 ≡ done node5)
     × (equivocatorsAt six list list 0 4 ≡ done node5)
     × (equivocatorsAt six soFar list 0 4 ≡ done node5)
+    × (called six list 1 ≡ true)
+    × (called six list 2 ≡ true)
+    × (correct six 1 ≡ true)
+    × (correct six 2 ≡ true)
     × (equivocatorsAt six list list 1 2 ≡ done 0)
 
 -- ---- signatures (R14.6)
@@ -69,3 +74,4 @@ UnopenedNamesCorrect =
     × (called leftOver oneCalled 1 ≡ false)
     × (equivocatorsAt leftOver oneCalled oneCalled 0 1 ≡ done 1)
     × (correct leftOver 0 ≡ true)
+    × (correct leftOver 1 ≡ true)

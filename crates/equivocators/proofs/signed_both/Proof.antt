@@ -15,7 +15,7 @@ equals-requires c κs = search needs
 returns : tie.Need-returns
 returns c =
     let a = c .before .before .args in
-    λ node. nobody node ∙ sym (both-same (entryOf (a .signers) (a .payload)) (entryOf (a .others) (a .other)) node (sym (c .before .equals .ensures) ∙ c .if1 .taken))
+    λ node. nobody node ∙ sym (both-same (entryOf (a .signers) (a .payload)) (entryOf (a .others) (a .second)) node (sym (c .before .equals .ensures) ∙ c .if1 .taken))
 
 common-requires : tie.Need-common-requires
 common-requires c κs = search needs
@@ -26,7 +26,7 @@ returns-2 c =
     let a = tested .before .args in
     λ node.
     rw (c .common .ensures)
-    (both-other (entryOf (a .signers) (a .payload)) (entryOf (a .others) (a .other)) node (sym (tested .equals .ensures) ∙ c .before .if1 .left))
+    (both-other (entryOf (a .signers) (a .payload)) (entryOf (a .others) (a .second)) node (sym (tested .equals .ensures) ∙ c .before .if1 .left))
 
 pub signed-both-spec : {M : Type 1} → statement M
 signed-both-spec = tie.close (tie.spec equals-requires returns common-requires returns-2)
