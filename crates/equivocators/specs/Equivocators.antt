@@ -1,4 +1,4 @@
--- RULES section 19: which nodes have signed two payloads in one slot, by the records of two nodes.
+-- RULES section 19: which nodes stand beside two payloads of one slot, by the records of two nodes.
 -- Assumes nothing.
 use mathlib.Core.Bool.{Bool, false, not, _||_}
 use mathlib.Core.List.{List, [], _∷_, _++_}

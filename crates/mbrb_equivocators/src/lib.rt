@@ -1,4 +1,4 @@
-// The C interface: which nodes have signed two payloads in one slot, by the records of two nodes, through numbers and byte slices.
+// The C interface: which nodes stand beside two payloads of one slot, by the records of two nodes, through numbers and byte slices.
 //
 // include/mbrb.h declares the functions beside those of crate mbrb. They are a crate of their own, so that a host which does not compare
 // records does not link them.
