@@ -1,4 +1,6 @@
 // A block: 32 bytes as two words and a payload. A record is two of them, the half that is held and the half that is noted.
+#![tactic(auto)]
+
 ghost use Rattle.std.specs.Prelude.{◌≡◌, cond, eqb, length};
 ghost use Rattle.octets.specs.Octets.{blank};
 ghost use Rattle.block.specs.Block.{block_size, bytes, loaded};
@@ -13,7 +15,7 @@ const SECOND_AT: usize = 8;
 
 pub const PAYLOAD_AT: usize = 16;
 
-#[derive(Drop)]
+#[derive(Clone, Copy)]
 pub struct Block {
     // bytes 0 to 7
     pub first: u64,

@@ -2,13 +2,15 @@
 //
 // Every function is defined for all bytes, lengths and numbers (R1.4). Reading and writing refuse by the
 // first reason that applies (R5.2); `load_payload`, `encode` and `encode_like` check nothing but lengths.
+#![tactic(auto)]
+
 ghost use Rattle.std.specs.Prelude.{◌≡◌, true};
 ghost use Rattle.octets.specs.Octets.{advance};
 ghost use Rattle.payload.specs.Payload.{bytes};
 ghost use Rattle.refusal.specs.Refusal.{verdict_of};
 ghost use Rattle.refusal.specs.Outcome.{unless, after, plain};
 ghost use Rattle.config.specs.Config.{good};
-ghost use Rattle.bundle.specs.Bundle.{encoded, header_reasons, read as read_of, reading_of, payload_part, payload_place, payload_loaded, write as writeOf, write_out};
+ghost use Rattle.bundle.specs.Bundle.{encoded, header_reasons, read as read_of, reading_of, payload_part, payload_place, payload_loaded, write as write_of, write_out};
 ghost use Rattle.bundle.specs.Inner.{encoded_like};
 
 use config::Config;
@@ -23,7 +25,7 @@ pub const PAYLOAD_AT: usize = 16;
 
 // What a bundle says beside its payload: its slot, and who signed. The slot's three fields stand side by side:
 // a struct of eight bytes that is passed on is copied as one number, which costs a call ten instructions.
-#[derive(Drop)]
+#[derive(Clone, Copy)]
 pub struct Header {
     pub day: u32,
     pub sender: u8,
@@ -31,7 +33,7 @@ pub struct Header {
     pub signers: u64,
 }
 
-#[derive(Drop)]
+#[derive(Clone, Copy)]
 pub enum Reading {
     Accepted(Header),
     Refused(Refusal),
@@ -98,7 +100,7 @@ pub fn write(
     payload: &[u8],
     out: &mut [u8],
 ) -> Verdict
-    ensures result_value { verdict_of result ≡ plain (writeOf config sender seq signers payload.now out.old) }
+    ensures result_value { verdict_of result ≡ plain (write_of config sender seq signers payload.now out.old) }
     ensures out_after { out.new ≡ write_out config sender seq signers payload.now out.old }
 {
     if !config.good() {

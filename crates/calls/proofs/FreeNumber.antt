@@ -10,7 +10,7 @@ use lib.Arith.{lt_of_le-ne}
 use lib.Dec.{eqb}
 use borrow.Author.Tests.{eqb-true, eqb-false}
 use Rattle.octets.specs.Octets.{blank}
-use Rattle.refusal.specs.Outcome.{Outcome, refused, done, checked, ◌and-then◌}
+use Rattle.refusal.specs.Outcome.{Outcome, refused, done, checked, ◌and_then◌}
 use Rattle.refusal.proofs.Reasons.{refused-not-done, asked, refused-asked}
 use Rattle.config.specs.declared.Config.{Config}
 use Rattle.config.specs.Config.{slots}

@@ -9,7 +9,7 @@ use lib.Dec.{eqb, lit≤}
 use lib.ListN.{length, get_or, replicate}
 use Rattle.octets.specs.Octets.{part}
 use Rattle.octets.proofs.Numbers.{part-part}
-use Rattle.refusal.specs.Outcome.{Outcome, refused, done, Reason, ◌if◌, unless, after, checked, plain, ◌and-then◌}
+use Rattle.refusal.specs.Outcome.{Outcome, refused, done, Reason, ◌if◌, unless, after, checked, plain, ◌and_then◌}
 use Rattle.refusal.proofs.Reasons.{refused-not-done, after_same}
 use Rattle.config.specs.declared.Config.{Config}
 use Rattle.config.specs.Config.{good, quorum, place, slots, record_size, records_size, in_range}

@@ -9,7 +9,7 @@ use lib.Arith.{lt_of_le-ne}
 use lib.ListN.{length}
 use borrow.Author.Tests.{eqb-true, not-false}
 use Rattle.octets.specs.Octets.{blank}
-use Rattle.refusal.specs.Outcome.{Outcome, refused, done, checked, ◌and-then◌}
+use Rattle.refusal.specs.Outcome.{Outcome, refused, done, checked, ◌and_then◌}
 use Rattle.refusal.proofs.Reasons.{Clear, refused-not-done, done-clear}
 use Rattle.config.specs.declared.Config.{Config}
 use Rattle.config.specs.Config.{good, slots, records_size, in_range}

@@ -4,7 +4,7 @@ use mathlib.Core.Path.{◌≡◌, refl, sym, ap, ◌∙◌}
 use mathlib.Core.Bool.{true, true≢false}
 use mathlib.Core.List.{List}
 use Prim.Native.Nat.{ℕ}
-use Rattle.refusal.specs.Outcome.{Outcome, refused, done, checked, ◌and-then◌}
+use Rattle.refusal.specs.Outcome.{Outcome, refused, done, checked, ◌and_then◌}
 use Rattle.refusal.proofs.Reasons.{refused-not-done, refused-asked}
 use Rattle.config.specs.Config.{quorum}
 use Rattle.bundle.specs.declared.Header.{Header}

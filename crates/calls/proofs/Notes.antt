@@ -6,7 +6,7 @@ use mathlib.Core.List.{List, [], ◌∷◌}
 use Prim.Native.Nat.{ℕ}
 use lib.Dec.{eqb}
 use lib.ListN.{length}
-use Rattle.refusal.specs.Outcome.{Outcome, refused, done, ◌if◌, after, checked, ◌and-then◌}
+use Rattle.refusal.specs.Outcome.{Outcome, refused, done, ◌if◌, after, checked, ◌and_then◌}
 use Rattle.config.specs.declared.Config.{Config}
 use Rattle.config.specs.declared.Slot.{Slot}
 use Rattle.config.specs.Config.{quorum, records_size}

@@ -10,7 +10,7 @@ use lib.ListN.{length}
 use borrow.Author.Tests.{eqb-true, not-true, not-false, ltb-true}
 use Rattle.octets.proofs.Numbers.{length_part}
 use Rattle.signers.specs.Signers.{member, within, size}
-use Rattle.refusal.specs.Outcome.{Outcome, refused, done, ◌if◌, checked, ◌and-then◌}
+use Rattle.refusal.specs.Outcome.{Outcome, refused, done, ◌if◌, checked, ◌and_then◌}
 use Rattle.refusal.proofs.Reasons.{Clear, refused-not-done, done-clear, asked, refused-asked, refused-clear}
 use Rattle.config.specs.declared.Config.{Config}
 use Rattle.config.specs.Config.{good, quorum, slots, records_size, in_range}

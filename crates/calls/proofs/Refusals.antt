@@ -7,7 +7,7 @@ use Prim.Native.Nat.{ℕ, ◌+◌, ◌<◌, ◌≤◌}
 use lib.Dec.{ltb}
 use lib.ListN.{length, replicate}
 use borrow.Author.Tests.{ltb-true, lt-ltb, le-ltb, eqb-true, eq-eqb, ne_eqb, not-true, not-false}
-use Rattle.refusal.specs.Outcome.{Outcome, refused, done, ◌if◌, checked, ◌and-then◌}
+use Rattle.refusal.specs.Outcome.{Outcome, refused, done, ◌if◌, checked, ◌and_then◌}
 use Rattle.refusal.proofs.Reasons.{passed, failed, pass, stop, done-clear, clear-done, refused-asked, refused-clear}
 use Rattle.config.specs.declared.Config.{Config}
 use Rattle.config.specs.Config.{good, slots, in_range, place, records_size, quorum}

@@ -8,7 +8,7 @@ use lib.ListN.{length}
 use Rattle.signers.specs.Signers as signers
 use Rattle.octets.specs.Octets.{Bytes}
 use Rattle.payload.specs.Payload as payload
-use Rattle.refusal.specs.Outcome.{Outcome, refused, done, after, checked, ◌and-then◌}
+use Rattle.refusal.specs.Outcome.{Outcome, refused, done, after, checked, ◌and_then◌}
 use Rattle.refusal.proofs.Reasons.{refused-not-done}
 use Rattle.config.specs.declared.Config.{Config}
 use Rattle.config.specs.Config.{quorum, place, records_size}

@@ -6,7 +6,7 @@ use Rattle.octets.specs.Octets.{blank}
 use Rattle.signers.specs.Signers as signers
 use Rattle.signers.specs.Signers.{insert}
 use Rattle.refusal.specs.Refusal.{number_of}
-use Rattle.refusal.specs.Outcome.{Outcome, refused, done, Reason, ◌if◌, after, checked, ◌and-then◌}
+use Rattle.refusal.specs.Outcome.{Outcome, refused, done, Reason, ◌if◌, after, checked, ◌and_then◌}
 use Rattle.payload.specs.Payload.{payload_size}
 use Rattle.config.specs.declared.Config.{Config}
 use Rattle.config.specs.Config.{good, slots}

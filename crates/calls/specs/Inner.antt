@@ -4,7 +4,7 @@
 use Rattle.std.specs.Prelude.{◌≡◌, cond, List, ℕ, ◌+◌, ◌≤◌, length}
 use Rattle.signers.specs.Signers as signers
 use Rattle.refusal.specs.Refusal.{number_of}
-use Rattle.refusal.specs.Outcome.{Outcome, refused, done, after, ◌and-then◌}
+use Rattle.refusal.specs.Outcome.{Outcome, refused, done, after, ◌and_then◌}
 use Rattle.config.specs.declared.Config.{Config}
 use Rattle.config.specs.declared.Slot.{Slot}
 use Rattle.config.specs.Config.{record_size, place}

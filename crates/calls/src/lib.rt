@@ -3,18 +3,20 @@
 //
 // Each is defined for all bytes, lengths and numbers over the buffers that it is given (R1.4). It refuses by
 // the first reason that applies (R5.2), and then leaves every byte as it is (R5.1).
+#![tactic(auto)]
+
 ghost use Rattle.std.specs.Prelude.{◌≡◌, true, ◌+◌, ◌≤◌, length};
 ghost use Rattle.octets.specs.Octets.{part, advance};
 ghost use Rattle.refusal.specs.Refusal.{verdict_of, number_of};
-ghost use Rattle.refusal.specs.Outcome.{plain, ◌and-then◌, done};
+ghost use Rattle.refusal.specs.Outcome.{plain, ◌and_then◌, done};
 ghost use Rattle.config.specs.Config.{good, slots, record_size, records_size, slot_of_day};
 ghost use Rattle.bundle.specs.Bundle.{reading_of, slot_of, bundle_size};
 ghost use Rattle.record.specs.Record.{bytes, received_of, encoded_update};
 ghost use Rattle.calls.specs.Records.{replaced};
 ghost use Rattle.calls.specs.Open.{opened, open_records};
-ghost use Rattle.calls.specs.Broadcast.{search as searchOf, broadcast as broadcastOf, broadcast_records, broadcast_out, announcement_of, announcement_count};
-ghost use Rattle.calls.specs.Receive.{receive as receiveOf, receive_records, receive_out, reported, receipt_of, receipt_count};
-ghost use Rattle.calls.specs.Showing.{delivered as deliveredOf, delivered_part, delivered_place};
+ghost use Rattle.calls.specs.Broadcast.{search as search_of, broadcast as broadcast_of, broadcast_records, broadcast_out, announcement_of, announcement_count};
+ghost use Rattle.calls.specs.Receive.{receive as receive_of, receive_records, receive_out, reported, receipt_of, receipt_count};
+ghost use Rattle.calls.specs.Showing.{delivered as delivered_of, delivered_part, delivered_place};
 ghost use Rattle.calls.specs.Inner.{decision_of, Placed, settled_receipt, settled_records, settled_out, number_in, sent};
 
 use bundle::{Header, Reading};
@@ -23,7 +25,7 @@ use record::{Received, Record};
 use refusal::{Refusal, Verdict};
 
 // The answer of broadcasting: the sequence number used (R7.3).
-#[derive(Drop)]
+#[derive(Clone, Copy)]
 pub enum Announcement {
     Announced(u8),
     Refused(Refusal),
@@ -31,7 +33,7 @@ pub enum Announcement {
 
 // The answer of receiving (R8.6, R8.14), with how many signers the record then has, or its note (R8.8); and of a preview,
 // with how many it would have (R8.9).
-#[derive(Drop)]
+#[derive(Clone, Copy)]
 pub enum Receipt {
     Kept(u32),
     Signed(u32),
@@ -85,7 +87,7 @@ pub fn open(config: Config, records: &mut [u8]) -> Verdict
 // R7.3: signs a payload of our own, keeps it under our lowest free number and writes its bundle to `out`.
 // What is announced is to be sent. Delivery comes by receiving alone (R7.4).
 pub fn broadcast(config: Config, payload: &[u8], records: &mut [u8], out: &mut [u8]) -> Announcement
-    ensures result_value { announcement_of result ≡ broadcastOf config payload.now records.old out.old }
+    ensures result_value { announcement_of result ≡ broadcast_of config payload.now records.old out.old }
     ensures records_after { records.new ≡ broadcast_records config payload.now records.old out.old }
     ensures out_after { out.new ≡ broadcast_out config payload.now records.old out.old }
 {
@@ -122,7 +124,7 @@ pub fn broadcast(config: Config, payload: &[u8], records: &mut [u8], out: &mut [
 // RULES section 8: receives a bundle that came in. What is answered signed or delivered is to be sent: `out` then has
 // the bundle of the record (R8.7).
 pub fn receive(config: Config, bundle: &[u8], records: &mut [u8], out: &mut [u8]) -> Receipt
-    ensures* r_value { λ r. ⌜ receipt_of r ≡ (receiveOf config bundle.now records.old out.old and_then λ result. done (reported result)) ⌝ }
+    ensures value { receipt_of result ≡ (receive_of config bundle.now records.old out.old and_then λ received. done (reported received)) }
     ensures records_after { records.new ≡ receive_records config bundle.now records.old out.old }
     ensures out_after { out.new ≡ receive_out config bundle.now records.old out.old }
 {
@@ -139,7 +141,7 @@ pub fn receive(config: Config, bundle: &[u8], records: &mut [u8], out: &mut [u8]
 // R8.9 to R8.12: what receiving the bundle would answer and leave in `out`. The records are lent for reading, and what
 // `out` then has is not to be sent.
 pub fn preview(config: Config, bundle: &[u8], records: &[u8], out: &mut [u8]) -> Receipt
-    ensures* r_value { λ r. ⌜ receipt_of r ≡ (receiveOf config bundle.now records.now out.old and_then λ result. done (reported result)) ⌝ }
+    ensures value { receipt_of result ≡ (receive_of config bundle.now records.now out.old and_then λ received. done (reported received)) }
     ensures out_after { out.new ≡ receive_out config bundle.now records.now out.old }
 {
     match decide(config, bundle, records, out) {
@@ -150,7 +152,7 @@ pub fn preview(config: Config, bundle: &[u8], records: &[u8], out: &mut [u8]) ->
 
 // R9.1: whether the slot is delivered, or why it cannot be shown.
 pub fn check_delivered(config: Config, sender: u8, seq: u8, records: &[u8]) -> Verdict
-    ensures { verdict_of result ≡ plain (deliveredOf config (slot_of_day config sender seq) records.now) }
+    ensures { verdict_of result ≡ plain (delivered_of config (slot_of_day config sender seq) records.now) }
 {
     if !config.good() {
         return Verdict::Refused(Refusal::BadConfig);
@@ -194,7 +196,7 @@ pub fn delivered(config: Config, sender: u8, seq: u8, records: &[u8]) -> &[u8]
 fn search(config: Config, records: &[u8]) -> Announcement
     requires config_value { good config ≡ true }
     requires records_len { length records.now ≡ records_size config }
-    ensures { announcement_of result ≡ searchOf config records.now 0 slots }
+    ensures { announcement_of result ≡ search_of config records.now 0 slots }
 {
     let mut seq: u8 = 0;
     while seq < config::SLOTS {
@@ -222,7 +224,7 @@ fn reason(reading: Reading) -> Refusal
 
 // What a bundle comes to, before anything is stored or sent: where its slot's record starts and what that record
 // makes of it, or why it is refused before a record is looked at.
-#[derive(Drop)]
+#[derive(Clone, Copy)]
 enum Decision {
     Made(usize, Received),
     Refused(Refusal),
@@ -231,7 +233,7 @@ enum Decision {
 // R8.1 to R8.6, R8.14 and R8.16: reads the bundle, checks the buffers, loads the slot's record and hands it the bundle.
 // Receiving and its preview differ in what becomes of this.
 fn decide(config: Config, bundle: &[u8], records: &[u8], outgoing: &[u8]) -> Decision
-    ensures result_value { decision_of result ≡ encoded_update (receiveOf config bundle.now records.now outgoing.now) }
+    ensures result_value { decision_of result ≡ encoded_update (receive_of config bundle.now records.now outgoing.now) }
     ensures placed { Placed config bundle.now records.now result }
 {
     let reading = bundle::read(config, bundle);

@@ -4,6 +4,8 @@
 // The methods take the configuration by value (R17.9) and are defined for every value of every field. One that
 // is not good has quorum 0, mask 0 and place 0 (R2.5). A caller asks `good` first: every set has a quorum of 0,
 // and 0 is the place of a slot, too.
+#![tactic(auto)]
+
 ghost use Rattle.std.specs.Prelude.{◌≡◌};
 ghost use Rattle.config.specs.Config.{config_of, least_quorum, most_quorum, good, quorum, mask, slot_place, place, records_size, with_own, slot_of_day};
 
@@ -32,7 +34,7 @@ pub fn most_quorum(n: u8, t: u8, d: u8) -> u32
 }
 
 // R2.6: what a broadcast has to itself. It is the sender's `seq`-th of the day, counted from 0.
-#[derive(Drop)]
+#[derive(Clone, Copy)]
 pub struct Slot {
     pub day: u32,
     pub sender: u8,
@@ -49,7 +51,7 @@ impl Slot {
     }
 }
 
-#[derive(Drop)]
+#[derive(Clone, Copy)]
 pub struct Config {
     // how many nodes the system has, 1 to 64
     pub n: u8,

@@ -2,6 +2,8 @@
 //
 // A correct node signs one payload in a slot (R14.22). So on the lists of section 14 a node that correct nodes' records name is
 // faulty (R19.7).
+#![tactic(auto)]
+
 ghost use Rattle.std.specs.Prelude.{◌≡◌, true, ◌+◌, ◌≤◌, ◌<◌, length};
 ghost use Rattle.octets.specs.Octets.{part};
 ghost use Rattle.refusal.specs.Refusal.{verdict_of};
@@ -9,7 +11,7 @@ ghost use Rattle.refusal.specs.Outcome.{plain};
 ghost use Rattle.config.specs.Config.{good, slots, record_size, records_size, with_own};
 ghost use Rattle.record.specs.Record.{bytes};
 ghost use Rattle.calls.specs.WellFormed.{sender_well_formed, all_well_formed};
-ghost use Rattle.equivocators.specs.Equivocators.{equivocators as equivocatorsOf, naming_of};
+ghost use Rattle.equivocators.specs.Equivocators.{equivocators as equivocators_of, naming_of};
 ghost use Rattle.equivocators.specs.Inner.{WordsFit, Distinct, Names, signed_both_by, among_records, Compared, slot_formed, slot_names, sender_formed, sender_names, all_formed, all_names};
 
 use config::Config;
@@ -18,7 +20,7 @@ use record::Record;
 use refusal::{Refusal, Verdict};
 
 // The nodes that are named, or why the records were not compared.
-#[derive(Drop)]
+#[derive(Clone, Copy)]
 pub enum Naming {
     Named(u64),
     Refused(Refusal),
@@ -28,7 +30,7 @@ pub enum Naming {
 // those of `other`, in the same system and on the same day, in `second`. Both are lent for reading. Each record of both is tested
 // and compared in one pass.
 pub fn equivocators(config: Config, other: u8, first: &[u8], second: &[u8]) -> Naming
-    ensures { naming_of result ≡ equivocatorsOf config other first.now second.now }
+    ensures { naming_of result ≡ equivocators_of config other first.now second.now }
 {
     if !config.good() {
         return Naming::Refused(Refusal::BadConfig);
@@ -60,7 +62,7 @@ pub fn equivocators(config: Config, other: u8, first: &[u8], second: &[u8]) -> N
 // R11.7: why the records of two nodes are not compared, if they are not. Nobody is looked for, so that it costs less where nothing is
 // refused.
 pub fn check_equivocators(config: Config, other: u8, first: &[u8], second: &[u8]) -> Verdict
-    ensures { verdict_of result ≡ plain (equivocatorsOf config other first.now second.now) }
+    ensures { verdict_of result ≡ plain (equivocators_of config other first.now second.now) }
 {
     if !config.good() {
         return Verdict::Refused(Refusal::BadConfig);
@@ -127,7 +129,7 @@ fn sender_well_formed(config: Config, sender: u8, records: &[u8]) -> bool
 }
 
 // What a comparison finds: whether all records that it looked at are well-formed, and if so, who is named by them.
-#[derive(Drop)]
+#[derive(Clone, Copy)]
 struct Comparison {
     formed: bool,
     named: u64,

@@ -1,5 +1,7 @@
 // Lines (R15.3) of an input that comes in pieces (R15.11): a line that has not ended yet is held, and one that
 // has ended does what it asks for.
+#![tactic(auto)]
+
 ghost use Rattle.std.specs.Prelude.{◌≡◌, ◌++◌, ◌+◌, ◌≤◌, length, take};
 ghost use Rattle.text.specs.Text.{written};
 ghost use Rattle.step.specs.Step.{row_space};
@@ -13,14 +15,14 @@ use step::ROW_SPACE;
 
 // What is known of the input so far, beside the records and the bytes that are held: what the lines left that
 // have ended, and how many bytes are held of the next.
-#[derive(Drop)]
+#[derive(Clone, Copy)]
 pub struct Run {
     pub state: State,
     pub held: usize,
 }
 
 // A run after a line or what there is of it, how many bytes that used, and where the printed text ends.
-#[derive(Drop)]
+#[derive(Clone, Copy)]
 pub struct Next {
     pub run: Run,
     pub used: usize,

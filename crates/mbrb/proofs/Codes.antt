@@ -10,7 +10,7 @@ use lib.Dec.{ltb}
 use lib.ListN.{length, replicate}
 use borrow.Author.Tests.{ltb-true}
 use Rattle.octets.specs.Octets.{blank}
-use Rattle.refusal.specs.Outcome.{Outcome, refused, done, plain, after, checked, ◌and-then◌}
+use Rattle.refusal.specs.Outcome.{Outcome, refused, done, plain, after, checked, ◌and_then◌}
 use Rattle.refusal.proofs.Reasons.{done-clear, Comes, unless-comes, then-comes}
 use Rattle.config.specs.declared.Config.{Config}
 use Rattle.config.specs.Config.{quorum, slots}

@@ -2,6 +2,8 @@
 //
 // include/mbrb.h declares the functions for C and C++, with those of crates mbrb_broadcast, mbrb_preview and mbrb_setpoint.
 // A slice passes as a pointer and a length; what the host must see to there is in that file.
+#![tactic(auto)]
+
 ghost use Rattle.std.specs.Prelude.{◌≡◌};
 ghost use Rattle.refusal.specs.Refusal.{verdict_of};
 ghost use Rattle.config.specs.Config.{config_of};

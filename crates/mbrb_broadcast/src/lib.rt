@@ -3,6 +3,8 @@
 // include/mbrb.h declares the function beside those of crate mbrb. It is a crate of its own since a static library is
 // compiled as one module: there the test of a record, which receiving and the search for a number share, would have two
 // callers, and the compiler would call it in place of joining it to each, which makes the search more than twice as long.
+#![tactic(auto)]
+
 ghost use Rattle.std.specs.Prelude.{◌≡◌};
 ghost use Rattle.config.specs.Config.{config_of};
 ghost use Rattle.calls.specs.Broadcast.{broadcast, broadcast_records, broadcast_out, announcement_of};

@@ -2,6 +2,8 @@
 //
 // include/mbrb.h declares the functions beside those of crate mbrb. They are a crate of their own, so that a host which does not compare
 // records does not link them.
+#![tactic(auto)]
+
 ghost use Rattle.std.specs.Prelude.{◌≡◌};
 ghost use Rattle.config.specs.Config.{config_of};
 ghost use Rattle.equivocators.specs.Equivocators.{equivocators, naming_of};

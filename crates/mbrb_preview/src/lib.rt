@@ -3,6 +3,8 @@
 // include/mbrb.h declares the function beside those of crate mbrb. It is a crate of its own since a static library is
 // compiled as one module: there the decision that receiving and its preview share would have two callers, and the
 // compiler would call it in place of joining it to each, which costs receiving more than half as many instructions again.
+#![tactic(auto)]
+
 ghost use Rattle.std.specs.Prelude.{◌≡◌};
 ghost use Rattle.config.specs.Config.{config_of};
 ghost use Rattle.calls.specs.Receive.{receive, receive_out};

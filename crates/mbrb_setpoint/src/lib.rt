@@ -2,6 +2,8 @@
 //
 // include/mbrb.h declares the function beside those of crate mbrb. It is a crate of its own, so that a host which does not pool
 // setpoints does not link it.
+#![tactic(auto)]
+
 ghost use Rattle.std.specs.Prelude.{◌≡◌};
 ghost use Rattle.config.specs.Config.{config_of};
 ghost use Rattle.pool.specs.Pool.{setpoint, pooling_of};

@@ -1,5 +1,7 @@
 // The records of up to eight nodes in one buffer: the day is opened at every node, and a step row is played
 // over the records of its node and printed.
+#![tactic(auto)]
+
 ghost use Rattle.std.specs.Prelude.{◌≡◌, length};
 ghost use Rattle.row.specs.Row.{row_in};
 ghost use Rattle.step.specs.Step.{printed_over, printed_end};

@@ -1,11 +1,13 @@
 // What a record notes of a second payload, as the 32 bytes of its second half (R4.7) and as a value.
+#![tactic(auto)]
+
 ghost use Rattle.std.specs.Prelude.{◌≡◌, cond, eqb, length};
 ghost use Rattle.octets.specs.Octets.{blank};
-ghost use Rattle.payload.specs.Payload.{bytes as payloadBytes};
+ghost use Rattle.payload.specs.Payload.{bytes as payload_bytes};
 ghost use Rattle.signers.specs.Signers.{union};
-ghost use Rattle.block.specs.Block.{loaded, bytes as blockBytes};
+ghost use Rattle.block.specs.Block.{loaded, bytes as block_bytes};
 ghost use Rattle.protocol.specs.Update.{Nothing, Noted, noted_signers, notes_other};
-ghost use Rattle.note.specs.Note.{note_size, bytes as bytesIn, encoding, decoded, well_formed};
+ghost use Rattle.note.specs.Note.{note_size, bytes as bytes_in, encoding, decoded, well_formed};
 
 use block::Block;
 use config::Config;
@@ -14,7 +16,7 @@ use payload::Payload;
 // A note's bytes.
 pub const SIZE: usize = block::SIZE;
 
-#[derive(Drop)]
+#[derive(Clone, Copy)]
 pub struct Note {
     pub signers: u64,
     // eight bytes that are zero
@@ -24,7 +26,7 @@ pub struct Note {
 
 // The note in a slice of 32 bytes; of a slice of another length, that nothing is noted.
 pub fn load(slice: &[u8]) -> Note
-    ensures { bytesIn result ≡ loaded slice.now }
+    ensures { bytes_in result ≡ loaded slice.now }
 {
     let block = block::load(slice);
     let payload = block.payload;
@@ -37,7 +39,7 @@ pub fn load(slice: &[u8]) -> Note
 
 // That nothing is noted.
 pub fn nothing() -> Note
-    ensures { bytesIn result ≡ encoding Nothing }
+    ensures { bytes_in result ≡ encoding Nothing }
 {
     Note {
         signers: 0,
@@ -48,7 +50,7 @@ pub fn nothing() -> Note
 
 // That a payload is noted with these signers.
 pub fn noted(signers: u64, payload: Payload) -> Note
-    ensures { bytesIn result ≡ encoding (Noted signers (payloadBytes payload)) }
+    ensures { bytes_in result ≡ encoding (Noted signers (payload_bytes payload)) }
 {
     Note {
         signers,
@@ -60,21 +62,21 @@ pub fn noted(signers: u64, payload: Payload) -> Note
 impl Note {
     // Writes the note over a slice of 32 bytes. A slice of another length stays as it is.
     pub fn store(self, slice: &mut [u8])
-        ensures { slice.new ≡ cond (eqb (length slice.old) note_size) (bytesIn self) slice.old }
+        ensures { slice.new ≡ cond (eqb (length slice.old) note_size) (bytes_in self) slice.old }
     {
         self.block().store(slice);
     }
 
     // Whether all 32 bytes are zero.
     pub fn is_blank(self) -> bool
-        ensures { result ≡ blank (bytesIn self) }
+        ensures { result ≡ blank (bytes_in self) }
     {
         self.block().is_blank()
     }
 
     // R4.8: whether the note is well-formed, in a slot of the sender and beside the payload that the record holds.
     pub fn well_formed(self, config: Config, sender: u8, held: Payload) -> bool
-        ensures { result ≡ well_formed config sender (payloadBytes held) (bytesIn self) }
+        ensures { result ≡ well_formed config sender (payload_bytes held) (bytes_in self) }
     {
         if self.zero != 0 {
             return false;
@@ -93,7 +95,7 @@ impl Note {
 
     // Whether another payload than this one is noted.
     pub fn notes_other(self, payload: Payload) -> bool
-        ensures { result ≡ notes_other (decoded (bytesIn self)) (payloadBytes payload) }
+        ensures { result ≡ notes_other (decoded (bytes_in self)) (payload_bytes payload) }
     {
         if self.signers == 0 {
             return false;
@@ -103,7 +105,7 @@ impl Note {
 
     // R8.14: the note with the signers of a bundle beside those that it has, of the payload that the bundle has.
     pub fn joined(self, signers: u64, payload: Payload) -> Note
-        ensures { bytesIn result ≡ encoding (Noted (union (noted_signers (decoded (bytesIn self))) signers) (payloadBytes payload)) }
+        ensures { bytes_in result ≡ encoding (Noted (union (noted_signers (decoded (bytes_in self))) signers) (payload_bytes payload)) }
     {
         noted(signers::union(self.signers, signers), payload)
     }
@@ -112,7 +114,7 @@ impl Note {
 impl Note {
     // Its words, in their order.
     fn block(self) -> Block
-        ensures { blockBytes result ≡ bytesIn self }
+        ensures { block_bytes result ≡ bytes_in self }
     {
         let payload = self.payload;
         Block {

@@ -2,6 +2,8 @@
 //
 // A word is read and written low byte first, from or to its reverse: in these shapes the compiler
 // joins the eight bytes into one load or store.
+#![tactic(auto)]
+
 ghost use Rattle.std.specs.Prelude.{◌≡◌, reverse, length, replicate};
 ghost use Rattle.octets.specs.Octets.{word_of, bytes_of, placed, filled};
 

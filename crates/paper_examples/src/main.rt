@@ -2,6 +2,8 @@
 // the rules say. First the tables (R2.7) and a few more, then the bundles that the layout (R3.1) makes of the
 // steps of the first run (R16.5), written and read back, then each reason for which reading and writing refuse
 // (R5.3).
+#![tactic(auto)]
+
 use bundle::Reading;
 use config::Config;
 use libc::STDOUT_FILENO;

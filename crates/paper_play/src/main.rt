@@ -5,6 +5,8 @@
 // It shows how the calls are used. A node has 1,024 bytes of records for each node of the system, opens the day
 // over them once, and from then on lends them, with 32 outgoing bytes, to each call. It sends the outgoing
 // bytes to all when the answer is announced, signed or delivered. No call keeps anything elsewhere.
+#![tactic(auto)]
+
 mod print;
 mod refusals;
 

@@ -1,13 +1,15 @@
 // A payload (R3.4) as a value: its 16 bytes as two words, high byte first. The calls pass payloads on in
 // this form; bundles, records and run files have them as bytes.
+#![tactic(auto)]
+
 ghost use Rattle.std.specs.Prelude.{◌≡◌};
-ghost use Rattle.octets.specs.Octets.{same as sameBytes, blank};
+ghost use Rattle.octets.specs.Octets.{same as same_bytes, blank};
 ghost use Rattle.payload.specs.Payload.{bytes, loaded};
 
 // A payload's bytes.
 pub const SIZE: usize = 16;
 
-#[derive(Drop)]
+#[derive(Clone, Copy)]
 pub struct Payload {
     // bytes 0 to 7
     pub high: u64,
@@ -51,7 +53,7 @@ impl Payload {
 
     // Whether the two have the same bytes.
     pub fn equals(self, other: Payload) -> bool
-        ensures { result ≡ sameBytes (bytes self) (bytes other) }
+        ensures { result ≡ same_bytes (bytes self) (bytes other) }
     {
         if self.high != other.high {
             return false;

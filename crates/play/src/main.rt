@@ -1,6 +1,8 @@
 // Plays a written run (R15.1): standard input to standard output, in constant memory (R15.11).
 //
 // What is printed for an input is what crates/run promises; here bytes are read and written.
+#![tactic(auto)]
+
 use libc::{STDERR_FILENO, STDIN_FILENO, STDOUT_FILENO};
 use nodes::RECORDS_SPACE;
 use run::{CHUNK, OUT_SPACE};

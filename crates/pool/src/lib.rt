@@ -1,8 +1,10 @@
 // RULES section 18: one setpoint from many. Of each sender the delivered setpoint with the highest number is pooled, called its
 // latest here, and the outcome is the lower middle of the pool.
+#![tactic(auto)]
+
 ghost use Rattle.std.specs.Prelude.{◌≡◌, true, ◌<◌, length};
 ghost use Rattle.config.specs.Config.{good, records_size};
-ghost use Rattle.pool.specs.Pool.{setpoint as setpointOf, pooling_of};
+ghost use Rattle.pool.specs.Pool.{setpoint as setpoint_of, pooling_of};
 ghost use Rattle.pool.specs.Inner.{Scanned, Collects};
 
 use config::Config;
@@ -13,7 +15,7 @@ use setpoint::Setpoint;
 const SPACE: usize = 64;
 
 // The outcome, in hundredths of a degree Celsius, or why there is none.
-#[derive(Drop)]
+#[derive(Clone, Copy)]
 pub enum Pooling {
     Value(i16),
     Refused(Refusal),
@@ -22,7 +24,7 @@ pub enum Pooling {
 // R18.7: the setpoint of the whole system, from what this node has delivered. The records are lent for reading. Each of them is
 // tested, whether it counts or not.
 pub fn setpoint(config: Config, records: &[u8]) -> Pooling
-    ensures { pooling_of result ≡ setpointOf config records.now }
+    ensures { pooling_of result ≡ setpoint_of config records.now }
 {
     if !config.good() {
         return Pooling::Refused(Refusal::BadConfig);
@@ -42,7 +44,7 @@ pub fn setpoint(config: Config, records: &[u8]) -> Pooling
 }
 
 // What is collected: a pool of so many values, or nothing, since a record is malformed.
-#[derive(Drop)]
+#[derive(Clone, Copy)]
 enum Collection {
     Pool(usize),
     Malformed,
@@ -74,7 +76,7 @@ fn collect(config: Config, records: &[u8], values: &mut [i16]) -> Collection
 }
 
 // What a sender's records hold: whether all are well-formed, and its latest setpoint, if one is found.
-#[derive(Drop)]
+#[derive(Clone, Copy)]
 struct Latest {
     formed: bool,
     found: bool,

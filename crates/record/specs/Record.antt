@@ -7,7 +7,7 @@ use Rattle.payload.specs.Payload as payload
 use Rattle.block.specs.Block as block
 use Rattle.signers.specs.Signers.{member, within, size}
 use Rattle.refusal.specs.Refusal.{number_of}
-use Rattle.refusal.specs.Outcome.{Outcome, refused, done, ◌if◌, checked, ◌and-then◌}
+use Rattle.refusal.specs.Outcome.{Outcome, refused, done, ◌if◌, checked, ◌and_then◌}
 use Rattle.config.specs.declared.Config.{Config}
 use Rattle.config.specs.Config.{quorum, record_size}
 use Rattle.protocol.specs.Update as protocol

@@ -2,14 +2,16 @@
 //
 // A record is loaded by value, a bundle is received on the value, and the result is stored again. Beside
 // these only showing looks at a record's bytes, and only at its payload.
+#![tactic(auto)]
+
 ghost use Rattle.std.specs.Prelude.{◌≡◌, cond, false, eqb, length};
 ghost use Rattle.octets.specs.Octets.{blank, same};
-ghost use Rattle.payload.specs.Payload.{bytes as payloadBytes};
-ghost use Rattle.block.specs.Block.{bytes as blockBytes};
-ghost use Rattle.note.specs.Note.{bytes as noteBytes, decoded as decodedNote};
+ghost use Rattle.payload.specs.Payload.{bytes as payload_bytes};
+ghost use Rattle.block.specs.Block.{bytes as block_bytes};
+ghost use Rattle.note.specs.Note.{bytes as note_bytes, decoded as decoded_note};
 ghost use Rattle.config.specs.Config.{quorum, record_size};
-ghost use Rattle.protocol.specs.Update.{update as updateOf, Nothing, Empty, Held, is_delivered};
-ghost use Rattle.record.specs.Record.{bytes as bytesIn, loaded, layout, encoding, well_formed, decoded, received, received_of, encoded_update};
+ghost use Rattle.protocol.specs.Update.{update as update_of, Nothing, Empty, Held, is_delivered};
+ghost use Rattle.record.specs.Record.{bytes as bytes_in, loaded, layout, encoding, well_formed, decoded, received, received_of, encoded_update};
 ghost use Rattle.record.specs.Inner.{HasState, NoteReads, half_well_formed, held_block};
 
 use block::Block;
@@ -28,7 +30,7 @@ pub const PAYLOAD_AT: usize = block::PAYLOAD_AT;
 
 const NOTE_AT: usize = block::SIZE;
 
-#[derive(Drop)]
+#[derive(Clone, Copy)]
 pub struct Record {
     // the state's byte and seven that are zero
     pub head: u64,
@@ -38,7 +40,7 @@ pub struct Record {
 }
 
 // What a bundle does to a record, and the record afterwards.
-#[derive(Drop)]
+#[derive(Clone, Copy)]
 pub enum Received {
     Kept(Record),
     Signed(Record),
@@ -49,7 +51,7 @@ pub enum Received {
 
 // The record in a slice of 64 bytes; of a slice of another length, an empty one.
 pub fn load(slice: &[u8]) -> Record
-    ensures { bytesIn result ≡ loaded slice.now }
+    ensures { bytes_in result ≡ loaded slice.now }
 {
     if slice.len() != config::RECORD_SIZE {
         return Record {
@@ -72,14 +74,14 @@ pub fn load(slice: &[u8]) -> Record
 impl Record {
     // A record that holds a payload with these signers, and notes nothing.
     pub fn held(signers: u64, payload: Payload) -> Record
-        ensures { bytesIn result ≡ encoding (Held signers (payloadBytes payload) Nothing) }
+        ensures { bytes_in result ≡ encoding (Held signers (payload_bytes payload) Nothing) }
     {
         Record::holding(signers, payload, note::nothing())
     }
 
     // Writes the record over a slice of 64 bytes. A slice of another length stays as it is.
     pub fn store(self, slice: &mut [u8])
-        ensures { slice.new ≡ cond (eqb (length slice.old) record_size) (bytesIn self) slice.old }
+        ensures { slice.new ≡ cond (eqb (length slice.old) record_size) (bytes_in self) slice.old }
     {
         if slice.len() != config::RECORD_SIZE {
             return;
@@ -91,7 +93,7 @@ impl Record {
 
     // Whether all 64 bytes are zero, and so the record empty (R4.5).
     pub fn is_blank(self) -> bool
-        ensures { result ≡ blank (bytesIn self) }
+        ensures { result ≡ blank (bytes_in self) }
     {
         if !self.half().is_blank() {
             return false;
@@ -103,7 +105,7 @@ impl Record {
     // R4.4: whether the record is well-formed, for a slot of the sender at this node. The calls refuse any
     // other.
     pub fn well_formed(self, config: Config, sender: u8) -> bool
-        ensures { result ≡ well_formed config sender (bytesIn self) }
+        ensures { result ≡ well_formed config sender (bytes_in self) }
     {
         if self.head == 0 {
             return self.is_blank();
@@ -123,7 +125,7 @@ impl Record {
 
     // Whether the slot is delivered, of a record that is well-formed.
     pub fn is_delivered(self) -> bool
-        ensures { result ≡ is_delivered (decoded (bytesIn self)) }
+        ensures { result ≡ is_delivered (decoded (bytes_in self)) }
     {
         1 < self.head / HELD
     }
@@ -131,7 +133,7 @@ impl Record {
     // R8.2 to R8.6, R8.14 and R8.16: what a bundle with these signers and this payload does to the record of a slot of the
     // sender.
     pub fn receive(self, config: Config, sender: u8, signers: u64, payload: Payload) -> Received
-        ensures { received_of result ≡ encoded_update (received config sender signers (payloadBytes payload) (bytesIn self)) }
+        ensures { received_of result ≡ encoded_update (received config sender signers (payload_bytes payload) (bytes_in self)) }
     {
         if !self.well_formed(config, sender) {
             return Received::Refused(Refusal::MalformedRecord);
@@ -149,7 +151,7 @@ impl Record {
 impl Record {
     // A record that holds a payload with these signers and this note.
     fn holding(signers: u64, payload: Payload, note: Note) -> Record
-        ensures { bytesIn result ≡ layout 1 signers (payloadBytes payload) (noteBytes note) }
+        ensures { bytes_in result ≡ layout 1 signers (payload_bytes payload) (note_bytes note) }
     {
         Record {
             head: HELD,
@@ -161,7 +163,7 @@ impl Record {
 
     // A record of a payload that these signers delivered, with this note.
     fn delivered(signers: u64, payload: Payload, note: Note) -> Record
-        ensures { bytesIn result ≡ layout 2 signers (payloadBytes payload) (noteBytes note) }
+        ensures { bytes_in result ≡ layout 2 signers (payload_bytes payload) (note_bytes note) }
     {
         Record {
             head: DELIVERED,
@@ -212,7 +214,7 @@ impl Record {
     fn update(self, config: Config, signers: u64, payload: Payload) -> Received
         requires has_state { HasState self }
         requires note_reads { NoteReads self.note }
-        ensures { received_of result ≡ encoded_update (updateOf config.own (quorum config) signers (payloadBytes payload) (decoded (bytesIn self))) }
+        ensures { received_of result ≡ encoded_update (update_of config.own (quorum config) signers (payload_bytes payload) (decoded (bytes_in self))) }
     {
         let state = self.head;
         if state == DELIVERED {
@@ -231,7 +233,7 @@ impl Record {
 
 // R8.2: a bundle on an empty record. We sign.
 fn sign(config: Config, signers: u64, payload: Payload) -> Received
-    ensures { received_of result ≡ encoded_update (updateOf config.own (quorum config) signers (payloadBytes payload) Empty) }
+    ensures { received_of result ≡ encoded_update (update_of config.own (quorum config) signers (payload_bytes payload) Empty) }
 {
     if signers::member(signers, config.own) {
         return Received::Refused(Refusal::OwnSignatureUnknown);
@@ -246,7 +248,7 @@ fn sign(config: Config, signers: u64, payload: Payload) -> Received
 // R8.3: a bundle with the payload that is held, and so far signed by `known`. The signers join, and what is noted stays.
 fn join(config: Config, known: u64, signers: u64, payload: Payload, note: Note) -> Received
     requires { NoteReads note }
-    ensures { received_of result ≡ encoded_update (updateOf config.own (quorum config) signers (payloadBytes payload) (Held known (payloadBytes payload) (decodedNote (noteBytes note)))) }
+    ensures { received_of result ≡ encoded_update (update_of config.own (quorum config) signers (payload_bytes payload) (Held known (payload_bytes payload) (decoded_note (note_bytes note)))) }
 {
     let joined = signers::union(known, signers);
     if config.quorum() <= signers::size(joined) {
@@ -258,8 +260,8 @@ fn join(config: Config, known: u64, signers: u64, payload: Payload, note: Note) 
 // A bundle with another payload than the one held. A full quorum replaces what is held, which is noted then (R8.4, R8.16);
 // fewer signers are noted, unless a third payload is (R8.14, R8.15).
 fn second(config: Config, found: Record, signers: u64, payload: Payload) -> Received
-    requires { same (payloadBytes found.payload) (payloadBytes payload) ≡ false }
-    ensures { received_of result ≡ encoded_update (updateOf config.own (quorum config) signers (payloadBytes payload) (Held found.signers (payloadBytes found.payload) (decodedNote (noteBytes found.note)))) }
+    requires { same (payload_bytes found.payload) (payload_bytes payload) ≡ false }
+    ensures { received_of result ≡ encoded_update (update_of config.own (quorum config) signers (payload_bytes payload) (Held found.signers (payload_bytes found.payload) (decoded_note (note_bytes found.note)))) }
 {
     if signers::member(signers, config.own) {
         return Received::Refused(Refusal::OwnSignatureUnknown);

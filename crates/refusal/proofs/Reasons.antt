@@ -8,7 +8,7 @@ use Prim.Native.Nat.{ℕ}
 use native.Mathlib.Omega.{arith}
 use lib.Dec.{eqb}
 use borrow.Author.Tests.{eq-eqb}
-use Rattle.refusal.specs.Outcome.{Outcome, refused, done, Reason, ◌if◌, unless, after, plain, ◌and-then◌}
+use Rattle.refusal.specs.Outcome.{Outcome, refused, done, Reason, ◌if◌, unless, after, plain, ◌and_then◌}
 
 -- none of the reasons applies
 abbrev pub Clear : List Reason → Type 0

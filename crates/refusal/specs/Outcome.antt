@@ -18,8 +18,8 @@ module _ {A : Type 0} where
   unless ((number if applies) ∷ rest) work = cond applies (refused number) (unless rest work)
 
   -- one outcome after the other: what the first refuses, both refuse
-  infixl 5 ◌and-then◌
-  abbrev pub ◌and-then◌ : {B : Type 0} → Outcome A → (A → Outcome B) → Outcome B
+  infixl 5 ◌and_then◌
+  abbrev pub ◌and_then◌ : {B : Type 0} → Outcome A → (A → Outcome B) → Outcome B
   refused number and_then next = refused number
   done work and_then next = next work
 

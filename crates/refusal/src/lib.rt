@@ -1,8 +1,10 @@
 // Why a call refused: the reasons of R5.4 and R5.5, each with its number.
+#![tactic(auto)]
+
 ghost use Rattle.std.specs.Prelude.{◌≡◌};
 ghost use Rattle.refusal.specs.Refusal.{number_of};
 
-#[derive(Drop)]
+#[derive(Clone, Copy)]
 pub enum Refusal {
     // from what the caller gives: R5.4
     BadConfig,
@@ -28,7 +30,7 @@ pub enum Refusal {
 }
 
 // The answer of a call that has nothing to tell where it did its work.
-#[derive(Drop)]
+#[derive(Clone, Copy)]
 pub enum Verdict {
     Done,
     Refused(Refusal),

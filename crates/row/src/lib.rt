@@ -2,6 +2,8 @@
 //
 // Every function is defined for all bytes and lengths. What is not of the format has a case of its own in
 // the answer.
+#![tactic(auto)]
+
 ghost use Rattle.std.specs.Prelude.{◌≡◌, cond, drop};
 ghost use Rattle.octets.specs.Octets.{same};
 ghost use Rattle.text.specs.Text.{after_fields};
@@ -13,7 +15,7 @@ use payload::Payload;
 use text::{Number, Word};
 
 // What happens at a node (R15.8): act A broadcasts a payload, act B receives a bundle.
-#[derive(Drop)]
+#[derive(Clone, Copy)]
 pub enum Step {
     Broadcast {
         payload: Payload,
@@ -27,21 +29,21 @@ pub enum Step {
 }
 
 // A step row.
-#[derive(Drop)]
+#[derive(Clone, Copy)]
 pub enum StepRow {
     Unread,
     At { node: u8, step: Step },
 }
 
 // The table row (R15.6, but for the bound of 8 nodes): the configuration that it gives, with own number 0.
-#[derive(Drop)]
+#[derive(Clone, Copy)]
 pub enum ConfigRow {
     Good(Config),
     Bad,
 }
 
 // 32 hexadecimal digits.
-#[derive(Drop)]
+#[derive(Clone, Copy)]
 enum HexPayload {
     Hex(Payload),
     NotHex,

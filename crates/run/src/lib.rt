@@ -5,6 +5,8 @@
 // and says how many, and writes what is to be printed for them to a buffer given by the caller. All else that
 // is kept from one piece to the next is a small struct, the line that has not ended yet and the records of
 // eight nodes: nothing grows with the input.
+#![tactic(auto)]
+
 ghost use Rattle.std.specs.Prelude.{◌≡◌, ◌++◌, ◌+◌, ◌-◌, ◌≤◌, length, take, replicate};
 ghost use Rattle.text.specs.Text.{written};
 ghost use Rattle.summary.specs.Summary.{summary_space};
@@ -23,7 +25,7 @@ pub const CHUNK: usize = 16384;
 pub const OUT_SPACE: usize = ROW_SPACE * CHUNK;
 
 // A run after a piece of the input, how many bytes of the piece were used, and how many are to be printed.
-#[derive(Drop)]
+#[derive(Clone, Copy)]
 pub struct Fed {
     pub run: Run,
     pub used: usize,

@@ -1,4 +1,6 @@
 // R18.1 and R18.2: a payload that says a setpoint.
+#![tactic(auto)]
+
 ghost use Rattle.std.specs.Prelude.{◌≡◌};
 ghost use Rattle.payload.specs.Payload.{bytes};
 ghost use Rattle.setpoint.specs.Setpoint.{setpoint_in, value_in};
@@ -9,7 +11,7 @@ use payload::Payload;
 const TAG: u64 = 1;
 
 // What a payload says: a setpoint, in hundredths of a degree Celsius, or something else.
-#[derive(Drop)]
+#[derive(Clone, Copy)]
 pub enum Setpoint {
     Value(i16),
     Other,

@@ -1,4 +1,6 @@
 // Signed numbers of 16 bits, the two bytes that write them (R18.2), and their order.
+#![tactic(auto)]
+
 ghost use Rattle.std.specs.Prelude.{◌≡◌, ◌+◌, ◌*◌};
 ghost use Rattle.std.specs.Int.Signed.{le_z};
 ghost use Rattle.signed.specs.Signed.{signed, bits_of};

@@ -2,12 +2,14 @@
 //
 // A bundle and a record keep the nodes that signed a payload as such a word. Every function is
 // defined for every argument; a node number of 64 or more has no bit, so no set has it.
+#![tactic(auto)]
+
 ghost use Rattle.std.specs.Prelude.{◌≡◌};
-ghost use Rattle.signers.specs.Signers.{member as isMember, insert as inserted, union as united, common as shared, size as sized, meets as isMet, below as all_below};
+ghost use Rattle.signers.specs.Signers.{member as is_member, insert as inserted, union as united, common as shared, size as sized, meets as is_met, below as all_below};
 
 // Whether `node` is in `set`.
 pub fn member(set: u64, node: u8) -> bool
-    ensures { result ≡ isMember set node }
+    ensures { result ≡ is_member set node }
 {
     if 64 <= node {
         return false;
@@ -48,7 +50,7 @@ pub fn size(set: u64) -> u32
 
 // Whether some node is in both sets.
 pub fn meets(a: u64, b: u64) -> bool
-    ensures { result ≡ isMet a b }
+    ensures { result ≡ is_met a b }
 {
     a & b != 0
 }

@@ -1,6 +1,8 @@
 // A run file line by line (R15.1): what a line does once it has ended, and what is printed for it. The first
 // line is to be a names line, the second the table row, the third another names line, and all others are step
 // rows.
+#![tactic(auto)]
+
 ghost use Rattle.std.specs.Prelude.{◌≡◌, [], if◌then◌else◌};
 ghost use Rattle.octets.specs.Octets.{same};
 ghost use Rattle.row.specs.Row.{table_names, step_names, row_in};
@@ -18,7 +20,7 @@ use step::ROW_SPACE;
 pub const LINE_SPACE: usize = 121;
 
 // What the next line is to be; after a wrong one of the first three there is no table (R15.7).
-#[derive(Drop)]
+#[derive(Clone, Copy)]
 pub enum Stage {
     TableNames,
     TableRow,
@@ -29,7 +31,7 @@ pub enum Stage {
 
 // What is known after some lines, beside the records: what the next line is to be, the config that the table
 // row gives, and the ordinal of the next step row.
-#[derive(Drop)]
+#[derive(Clone, Copy)]
 pub struct State {
     pub stage: Stage,
     pub config: Config,
@@ -37,7 +39,7 @@ pub struct State {
 }
 
 // What is known after a line, and where the text that is printed for it ends.
-#[derive(Drop)]
+#[derive(Clone, Copy)]
 pub struct Ended {
     pub state: State,
     pub len: usize,

@@ -6,7 +6,7 @@ use mathlib.Core.List.{List, ◌++◌, append_assoc}
 use Prim.Native.Nat.{ℕ, ◌+◌, ◌≤◌}
 use native.Mathlib.Omega.{arith}
 use lib.ListN.{length, length-append}
-use Rattle.refusal.specs.Outcome.{Outcome, refused, done, ◌and-then◌}
+use Rattle.refusal.specs.Outcome.{Outcome, refused, done, ◌and_then◌}
 use Rattle.payload.specs.Payload.{bytes}
 use Rattle.config.specs.declared.Config.{Config}
 use Rattle.protocol.specs.Update as protocol

@@ -1,7 +1,7 @@
 -- What a step of a run does at its node (R15.8), and what is printed for it (R16.2, R16.3). A step is one of the calls that RULES section 14 is about.
 -- Assumes nothing.
 use Rattle.std.specs.Prelude.{◌≡◌, Bool, cond, List, ◌++◌, ℕ, ◌+◌, leb, length, replicate}
-use Rattle.refusal.specs.Outcome.{Outcome, refused, done, ◌and-then◌}
+use Rattle.refusal.specs.Outcome.{Outcome, refused, done, ◌and_then◌}
 use Rattle.payload.specs.declared.Payload.{Payload}
 use Rattle.payload.specs.Payload.{bytes}
 use Rattle.config.specs.declared.Config.{Config}

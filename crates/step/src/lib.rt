@@ -1,6 +1,8 @@
 // A step of a run: played at its node by the call that it stands for, and printed.
+#![tactic(auto)]
+
 ghost use Rattle.std.specs.Prelude.{◌≡◌, ◌++◌, ◌+◌, ◌≤◌, length};
-ghost use Rattle.refusal.specs.Outcome.{refused as refusedFor};
+ghost use Rattle.refusal.specs.Outcome.{refused as refused_for};
 ghost use Rattle.refusal.specs.Refusal.{number_of};
 ghost use Rattle.calls.specs.Receive.{receipt_of};
 ghost use Rattle.text.specs.Text.{ascii, decimal, written};
@@ -16,7 +18,7 @@ use row::Step;
 pub const ROW_SPACE: usize = 80;
 
 // The answer of a step.
-#[derive(Drop)]
+#[derive(Clone, Copy)]
 pub enum Answer {
     Broadcast(Announcement),
     Receive(Receipt),
@@ -153,8 +155,8 @@ fn counted(count: u32, at: usize, out: &mut [u8]) -> usize
 
 fn refused(reason: Refusal, at: usize, out: &mut [u8]) -> usize
     requires { at + 34 ≤ length out.old }
-    ensures value { result ≡ at + length (ascii " " ++ answer_text (refusedFor (number_of reason))) }
-    ensures out_after { out.new ≡ written at (ascii " " ++ answer_text (refusedFor (number_of reason))) out.old }
+    ensures value { result ≡ at + length (ascii " " ++ answer_text (refused_for (number_of reason))) }
+    ensures out_after { out.new ≡ written at (ascii " " ++ answer_text (refused_for (number_of reason))) out.old }
 {
     let a = text::put(b" refused ", at, out);
     let b = text::decimal(refusal::number(reason) as u64, a, out);

@@ -1,10 +1,12 @@
 // The last rows of a run (R16.4): each slot that some node has delivered, with how many nodes did and how many
 // percent of all nodes that is.
+#![tactic(auto)]
+
 ghost use Rattle.std.specs.Prelude.{◌≡◌, ◌+◌, ◌*◌, ◌≤◌, length};
 ghost use Rattle.config.specs.Config.{slots};
 ghost use Rattle.text.specs.Text.{written};
 ghost use Rattle.nodes.specs.Nodes.{records_space};
-ghost use Rattle.summary.specs.DisplayNorm.{percent as percentOf};
+ghost use Rattle.summary.specs.DisplayNorm.{percent as percent_of};
 ghost use Rattle.summary.specs.Summary.{slot_text, sender_text, slots_text, summary_text, shown_count, slot_space, summary_over, summary_end};
 
 use config::{Config, SLOTS};
@@ -20,7 +22,7 @@ pub const SPACE: usize = 28 + ROW_SPACE * (SLOTS as usize) * 256;
 // The whole percent nearest to `delivered` of n nodes, half way between two the even one (R16.8); 0 where n is 0
 // (R16.10). Hundredths are those of a node.
 pub fn percent(n: u8, delivered: u8) -> u64
-    ensures { result ≡ percentOf n delivered }
+    ensures { result ≡ percent_of n delivered }
 {
     if n == 0 {
         return 0;

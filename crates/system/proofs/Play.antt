@@ -7,7 +7,7 @@ use mathlib.Core.List.{List}
 use Prim.Native.Nat.{ℕ}
 use native.Mathlib.Decide.{ℕ_discrete}
 use Rattle.octets.proofs.ComputedTests.{every, every-says}
-use Rattle.refusal.specs.Outcome.{done, ◌and-then◌}
+use Rattle.refusal.specs.Outcome.{done, ◌and_then◌}
 use Rattle.refusal.proofs.Unique.{by_number, reason_of}
 use Rattle.calls.specs.Broadcast.{broadcast}
 use Rattle.calls.specs.Receive.{receive, reported}

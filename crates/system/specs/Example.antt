@@ -9,7 +9,7 @@ use Rattle.config.specs.declared.Config.{Config}
 use Rattle.config.specs.declared.Slot.{Slot}
 use Rattle.config.specs.Config.{config_for, slot_of_day, records_size}
 use Rattle.bundle.specs.Bundle.{bundle_size, bundle_of, header_of_day}
-use Rattle.refusal.specs.Outcome.{Outcome, done, ◌and-then◌}
+use Rattle.refusal.specs.Outcome.{Outcome, done, ◌and_then◌}
 use Rattle.protocol.specs.Update.{Note, Noted, note_of, Answer, noted}
 use Rattle.protocol.specs.Trace.{Trace, start, ◌then◌calls◌, each}
 use Rattle.calls.specs.Receive.{receive, reported}

@@ -3,7 +3,7 @@
 use Rattle.std.specs.Prelude.{◌≡◌, false, ℕ, suc, replicate}
 use mathlib.Core.List.{List, [], ◌∷◌, Memᴰ}
 use Rattle.refusal.specs.Refusal.{number_of}
-use Rattle.refusal.specs.Outcome.{done, ◌and-then◌}
+use Rattle.refusal.specs.Outcome.{done, ◌and_then◌}
 use Rattle.config.specs.declared.Config.{Config}
 use Rattle.config.specs.Config.{config_for, records_size}
 use Rattle.bundle.specs.Bundle.{bundle_size, bundle_of, header_of_day}

@@ -2,23 +2,25 @@
 //
 // Every function is defined for all bytes and lengths. What is not what it should be has a case of its own
 // in the answer; what has no room is not written, not even in part.
+#![tactic(auto)]
+
 mod table;
 
 ghost use Rattle.std.specs.Prelude.{◌≡◌, ◌++◌, ◌+◌, ◌≤◌, length, take, drop};
-ghost use Rattle.octets.specs.Octets.{same as sameBytes};
-ghost use Rattle.text.specs.Text.{before, number_at, word_in, decimal as decimalOf, written, end as end_of};
+ghost use Rattle.octets.specs.Octets.{same as same_bytes};
+ghost use Rattle.text.specs.Text.{before, number_at, word_in, decimal as decimal_of, written, end as end_of};
 
 use crate::table::DIGITS;
 
 // A field that was read as a plain number (R15.4): its value, and the index at which the next field starts.
-#[derive(Drop)]
+#[derive(Clone, Copy)]
 pub enum Number {
     Plain(u32, usize),
     NotPlain,
 }
 
 // Sixteen hexadecimal digits.
-#[derive(Drop)]
+#[derive(Clone, Copy)]
 pub enum Word {
     Hex(u64),
     NotHex,
@@ -40,7 +42,7 @@ pub fn find(byte: u8, text: &[u8]) -> usize
 
 // Whether the two have the same bytes.
 pub fn same(a: &[u8], b: &[u8]) -> bool
-    ensures { result ≡ sameBytes a.now b.now }
+    ensures { result ≡ same_bytes a.now b.now }
 {
     if a.len() != b.len() {
         return false;
@@ -146,8 +148,8 @@ pub fn put(text: &[u8], at: usize, out: &mut [u8]) -> usize
 
 // Writes n as a plain number, as `put` writes a text.
 pub fn decimal(n: u64, at: usize, out: &mut [u8]) -> usize
-    ensures value { result ≡ end_of at (decimalOf n) out.old }
-    ensures out_after { out.new ≡ written at (decimalOf n) out.old }
+    ensures value { result ≡ end_of at (decimal_of n) out.old }
+    ensures out_after { out.new ≡ written at (decimal_of n) out.old }
 {
     let k = digits(n);
     if out.len() < at {
@@ -162,7 +164,7 @@ pub fn decimal(n: u64, at: usize, out: &mut [u8]) -> usize
 
 // How many digits n has.
 fn digits(n: u64) -> usize
-    ensures { result ≡ length (decimalOf n) }
+    ensures { result ≡ length (decimal_of n) }
 {
     let mut k = 1;
     let mut rest = n / 10;
@@ -175,9 +177,9 @@ fn digits(n: u64) -> usize
 
 // Writes the k digits of n, the last one first.
 fn spell(n: u64, k: usize, at: usize, out: &mut [u8])
-    requires k_value { k ≡ length (decimalOf n) }
+    requires k_value { k ≡ length (decimal_of n) }
     requires k_in_bounds { at + k ≤ length out.old }
-    ensures { out.new ≡ take at out.old ++ (decimalOf n ++ drop (at + k) out.old) }
+    ensures { out.new ≡ take at out.old ++ (decimal_of n ++ drop (at + k) out.old) }
 {
     let mut i = k;
     let mut rest = n;

@@ -13,7 +13,7 @@ use Rattle.config.specs.Config.{in_range, slots, slot_place, place}
 use Rattle.config.proofs.Laws.{place-slot}
 use Rattle.record.specs.Record.{bytes, well_formed}
 use Rattle.calls.specs.Records.{own_slot}
-use Rattle.calls.specs.Broadcast.{search as searchOf}
+use Rattle.calls.specs.Broadcast.{search as search_of}
 use Rattle.calls.specs.FreeNumber.{own_record, Used}
 use Rattle.calls.proofs.FreeNumber.{look-free, look-used, look-malformed}
 use Rattle.calls.proofs.RecordBounds.{own_range, record-at}
@@ -23,7 +23,7 @@ use Rattle.calls.proofs.search.Tie as tie
 
 abbrev invariant-loop : tie.invariant-loop
 invariant-loop config records seq₀ seq =
-    (seq ≤ slots) × ((left : ℕ) → seq + left ≡ slots → searchOf config records seq left ≡ searchOf config records 0 slots)
+    (seq ≤ slots) × ((left : ℕ) → seq + left ≡ slots → search_of config records seq left ≡ search_of config records 0 slots)
 
 abbrev decreases-loop : tie.decreases-loop
 decreases-loop config records seq₀ seq = slots - seq
@@ -60,7 +60,7 @@ module _ (c : tie.After-place invariant-loop decreases-loop) where
   place-known = c.place.ensures ∙ ap slot_place c.before.slot-of-day.ensures ∙ sym (place-slot config (own_slot config seq) start.pre.0 range-known)
 
   -- what is found from here on is what is found
-  from-here : searchOf config records seq (suc left) ≡ searchOf config records 0 slots
+  from-here : search_of config records seq (suc left) ≡ search_of config records 0 slots
   from-here = at_test.loop.inv.1 (suc left) (let h = seq-known in omega arith)
 
 -- the record that was loaded is ours with this number; what is said of it
@@ -80,7 +80,7 @@ well-formed-known c =
 -- ---- the needs
 
 loop-holds : tie.Need-loop-init invariant-loop decreases-loop
-loop-holds c = (omega arith, λ left e. ap₂ (searchOf _ _) (omega arith) (omega arith))
+loop-holds c = (omega arith, λ left e. ap₂ (search_of _ _) (omega arith) (omega arith))
 
 slot-of-day-requires : tie.Need-slot-of-day-requires invariant-loop decreases-loop
 slot-of-day-requires c κs = search rules
@@ -125,13 +125,13 @@ loop-again c =
     = record { formed = sym (well-formed-known c.before) ∙ not-false _ c.if2.false; not_blank = sym (blank-known look) ∙ c.before.before.if1.false } in (
       omega (arith, seq-known at),
       λ more e.
-          ap (λ (k : ℕ). searchOf (config at) (records at) k more) (add-one (seq at))
+          ap (λ (k : ℕ). search_of (config at) (records at) k more) (add-one (seq at))
           ∙ sym (look-used (config at) (records at) (seq at) more used)
           ∙ (at_test at).loop.invariant.1 (suc more) (omega arith),
     )
 
 returns-3 : tie.Need-returns-3 invariant-loop decreases-loop
-unfolding searchOf
+unfolding search_of
 returns-3 c = c.before.loop.invariant.1 0 (omega (arith, c.before.loop.invariant.0, c.loop-test.false))
 
 pub search-spec : {M : Type 1} → statement M
