@@ -3,7 +3,7 @@
 use mathlib.Core.Path.{◌≡◌, refl, sym, ap, ap₂, ◌∙◌}
 use mathlib.Core.Bool.{Bool, true, false, cond, and-eq-true_iff, true≢false}
 use mathlib.Core.List.{List, [], ◌∷◌}
-use Prim.Native.Nat.{ℕ, zero, suc, ◌+◌, ◌-◌, ◌*◌, ◌^◌, ◌≤◌, ◌<◌}
+use Prim.Native.Nat.{ℕ, zero, suc, ◌+◌, ◌*◌, ◌^◌, ◌≤◌, ◌<◌}
 use native.Mathlib.Nat.{zero-add, add-zero, add-suc, suc-add, pow-le-pow_right}
 use native.Mathlib.Omega.{arith}
 use lib.Dec.{eqb, lit<}
@@ -15,8 +15,8 @@ use Rattle.text.specs.Text.{only, digit, hex_digit, digit_value, hex, word_in}
 use Rattle.text.specs.Text as spec
 use Rattle.text.proofs.Fields.{only-says, only-more}
 use Rattle.text.proofs.DigitValues.{hex-digit-lt, hex-fits, value-more}
-use Rattle.text.proofs.hex.Statement.{statement}
-use Rattle.text.proofs.hex.Tie as tie
+use Rattle.text.proofs.hex.Goals as goal
+use Rattle.text.proofs.hex.Goals.{After-shared_slice_known-1, At-loop-i, Else-digit-ge16}
 
 -- what the table has for a byte, and n entries of it from byte i on
 entry : ℕ → ℕ
@@ -81,103 +81,59 @@ module _ (xs : List ℕ) where
       let power : 16 ^ length (take i xs) ≤ 16 ^ 15 = pow-le-pow_right (lit< tt) few in
       omega (arith, hex-fits (take i xs) e)
 
-abbrev invariant-loop : tie.invariant-loop
-invariant-loop text digits value₀ i₀ value i = (i ≤ 16) × (only hex_digit (take i text) ≡ true) × (value ≡ spec.value 16 0 (take i text))
+pub returns-then-text-ne16 : goal.returns-then-text-ne16
+returns-then-text-ne16 c = no_length _ c.if-text-ne16.true
 
-abbrev decreases-loop : tie.decreases-loop
-decreases-loop text digits value₀ i₀ value i = 16 - i
-
-returns : tie.Need-returns invariant-loop decreases-loop
-returns c = no_length _ c.if1.true
-
-loop-holds : tie.Need-loop-init invariant-loop decreases-loop
+pub loop-i-init : goal.loop-i-init
 unfolding only spec.value
-loop-holds c = (omega arith, refl, refl)
-
-shared-slice-read-digit : tie.Need-shared-slice-read-digit invariant-loop decreases-loop
-shared-slice-read-digit c = omega arith
-
-cast-digit : tie.Need-overflow-cast-digit invariant-loop decreases-loop
-cast-digit c = omega (arith, c.shared-slice-known.given c.before.before.loop.i)
-
-array-read-digit : tie.Need-array-read-digit invariant-loop decreases-loop
-array-read-digit c = omega (arith, c.shared-slice-known.given c.before.before.loop.i)
+loop-i-init c = (omega arith, refl, refl)
 
 -- the byte that is read, its entry,
-abbrev byte : tie.After-shared-slice-known invariant-loop decreases-loop → ℕ
-byte c = get_or c.before.before.before.before.args.text.now c.before.before.loop.i 0
+abbrev byte : After-shared_slice_known-1 → ℕ
+byte c = get_or c.args.text.now c.loop-i.i 0
 
-looked-up : (c : tie.After-shared-slice-known invariant-loop decreases-loop) → get_or (entries 0 256) (byte c) 0 ≡ entry (byte c)
-looked-up c = entries_at 256 0 (byte c) (c.shared-slice-known.given c.before.before.loop.i).fits ∙ ap entry (zero-add (byte c))
+looked-up : (c : After-shared_slice_known-1) → get_or (entries 0 256) (byte c) 0 ≡ entry (byte c)
+looked-up c = entries_at 256 0 (byte c) (c.shared_slice_known-1.given c.loop-i.i).fits ∙ ap entry (zero-add (byte c))
 
-returns-2 : tie.Need-returns-2 invariant-loop decreases-loop
+pub returns-then-digit-ge16 : goal.returns-then-digit-ge16
 unfolding entries entry hex_digit digit digit_value
-returns-2 c =
-    no_digit _ c.before.before.before.loop.i (omega arith) (entry-none (byte c.before) (rw (looked-up c.before) at c.if2.true))
+returns-then-digit-ge16 c =
+    no_digit _ c.loop-i.i (omega arith) (entry-none (byte (goal.at.returns-then-digit-ge16 c).After-shared_slice_known-1) (rw (looked-up (goal.at.returns-then-digit-ge16 c).After-shared_slice_known-1) at c.if-digit-ge16.true))
 
 -- and that it is a digit where the entry is below 16
-digit-read : (c : tie.Else2 invariant-loop decreases-loop) → (hex_digit (byte c.before) ≡ true) × (get_or (entries 0 256) (byte c.before) 0 ≡ digit_value (byte c.before))
+digit-read : (c : Else-digit-ge16) → (hex_digit (byte (goal.at.Else-digit-ge16 c).After-shared_slice_known-1) ≡ true) × (get_or (entries 0 256) (byte (goal.at.Else-digit-ge16 c).After-shared_slice_known-1) 0 ≡ digit_value (byte (goal.at.Else-digit-ge16 c).After-shared_slice_known-1))
 unfolding entries entry hex_digit digit digit_value
 digit-read c =
-    let (is, same) = entry-digit (byte c.before) (rw (looked-up c.before) at c.if2.false) in
-    (is, looked-up c.before ∙ same)
+    let (is, same) = entry-digit (byte (goal.at.Else-digit-ge16 c).After-shared_slice_known-1) (rw (looked-up (goal.at.Else-digit-ge16 c).After-shared_slice_known-1) at c.if-digit-ge16.false) in
+    (is, looked-up (goal.at.Else-digit-ge16 c).After-shared_slice_known-1 ∙ same)
 
 -- and the number so far leaves room for it
-small : (c : tie.Else2 invariant-loop decreases-loop) → c.before.before.before.loop.value < 16 ^ 15
+small : (c : Else-digit-ge16) → c.loop-i.value < 16 ^ 15
 small c =
-    let at = c.before.before.before in
-    let (low, digits, same) = at.loop.invariant in
-    rw same (room _ at.loop.i c.before.before.loop-test.true (omega arith) digits)
+    let at = c in
+    let (low, digits, same) = at.loop-i.invariant in
+    rw same (room _ at.loop-i.i c.loop-i-test.true (omega arith) digits)
 
-mul-value : tie.Need-overflow-mul-value invariant-loop decreases-loop
-mul-value c = omega (arith, small c)
+pub overflow_mul-value : goal.overflow_mul-value
+overflow_mul-value c = omega (arith, small c)
 
-cast-value : tie.Need-overflow-cast-value invariant-loop decreases-loop
-cast-value c = omega arith
+pub overflow_add-value : goal.overflow_add-value
+overflow_add-value c = omega (arith, small c)
 
-add-value : tie.Need-overflow-add-value invariant-loop decreases-loop
-add-value c = omega (arith, small c)
-
-add-i : tie.Need-overflow-add-i invariant-loop decreases-loop
-add-i c = omega arith
-
-loop-less : tie.Need-loop-smaller invariant-loop decreases-loop
-loop-less c = omega arith
-
-loop-again : tie.Need-loop-preserved invariant-loop decreases-loop
+pub loop-i-preserved : goal.loop-i-preserved
 unfolding entries entry hex_digit digit digit_value
-loop-again c =
-    let at = c.before.before.before in
-    let xs = at.before.before.args.text.now in
-    let (low, digits, same) = at.loop.invariant in
-    let h : at.loop.i < length xs = omega arith in
+loop-i-preserved c =
+    let at = c in
+    let xs = at.args.text.now in
+    let (low, digits, same) = at.loop-i.invariant in
+    let h : at.loop-i.i < length xs = omega arith in
     let (is, equal) = digit-read c in
-    (omega arith, only-more hex_digit xs at.loop.i h is digits, ap₂ (λ (v d : ℕ). v * 16 + d) same equal ∙ sym (value-more 16 xs at.loop.i h))
+    (omega arith, only-more hex_digit xs at.loop-i.i h is digits, ap₂ (λ (v d : ℕ). v * 16 + d) same equal ∙ sym (value-more 16 xs at.loop-i.i h))
 
-returns-3 : tie.Need-returns-3 invariant-loop decreases-loop
-returns-3 c =
-    let at = c.before in
-    let xs = at.before.before.args.text.now in
-    let (low, digits, same) = at.loop.invariant in
-    let whole : take at.loop.i xs ≡ xs = take_all at.loop.i xs (omega arith) in
-    ap Hex (same ∙ ap (spec.value 16 0) whole) ∙ taken xs at.before.if1.false (rw whole at digits)
-
-pub hex-spec : {M : Type 1} → statement M
-hex-spec =
-    tie.close
-    (tie.spec
-    invariant-loop
-    decreases-loop
-    returns
-    loop-holds
-    shared-slice-read-digit
-    cast-digit
-    array-read-digit
-    returns-2
-    mul-value
-    cast-value
-    add-value
-    add-i
-    loop-less
-    loop-again
-    returns-3)
+pub returns : goal.returns
+returns c =
+    let at = c in
+    let xs = at.args.text.now in
+    let (low, digits, same) = at.loop-i.invariant in
+    let whole : take at.loop-i.i xs ≡ xs = take_all at.loop-i.i xs (omega arith) in
+    ap Hex (same ∙ ap (spec.value 16 0) whole) ∙ taken xs at.if-text-ne16.false (rw whole at digits)
