@@ -8,7 +8,7 @@ use native.Mathlib.Omega.{arith}
 use Rattle.config.specs.declared.Config.{Config}
 use Rattle.config.specs.Config.{good}
 use Rattle.octets.specs.Octets.{same}
-use Rattle.text.specs.Text.{ascii, field, after_fields, value, plain_number, plain_up_to}
+use Rattle.text.specs.Text.{ascii, field, after_fields, plain_number, plain_up_to}
 use Rattle.text.proofs.FieldPositions.{plain-whole, plain-within}
 use Rattle.row.specs.declared.ConfigRow.TheVariants.{Good, Bad}
 use Rattle.row.specs.Row.{table_names, config_in, is_table, table_in, FiveAreAsked}
