@@ -1,7 +1,7 @@
 -- A step row that is read, and one that is not: where something is printed for it, it was read and that is its text; and else nothing was done, where
 -- there is room for any row. From the definitions of specs/Stages.antt, and that a row which is read has no line feed.
 -- Assumes nothing.
-use Rattle.std.proofs.Common.{◌≡◌, ℕ, ◌+◌, ◌<◌, ◌≤◌, Bool, true, false, cond, List, [], ◌++◌, length, sym, refl, ap, ◌∙◌, arith, length-append}
+use Rattle.std.proofs.Common.{◌≡◌, ℕ, ◌+◌, ◌<◌, ◌≤◌, Bool, true, false, List, ◌++◌, length, refl, ◌∙◌, arith, length-append}
 use Rattle.config.specs.declared.Config.{Config}
 use Rattle.text.specs.Text.{before, decimal, line_feed}
 use Rattle.text.proofs.DecimalDigits.{decimal-some}

@@ -1,13 +1,12 @@
 -- `play_step_row` meets its contract: by stage. Assumes nothing.
-use Rattle.std.proofs.Common.{◌≡◌, ℕ, List, [], ◌∷◌, refl, rules}
-use types.Run.{miss}
+use Rattle.std.proofs.Common.{◌≡◌, ◌∙◌, ap, sym, ℕ, List, [], refl}
 use Rattle.nodes.proofs.Printing.{prints-nothing}
 use Rattle.stages.specs.declared.State.{State}
 use Rattle.stages.specs.declared.Stage.{Stage}
 use Rattle.stages.specs.declared.Stage.TheVariants.{TableNames, TableRow, StepNames, Steps, NoTable}
 use Rattle.stages.specs.Stages.{read_text_at, read_text, read_records_at, read_records}
-use Rattle.stages.proofs.play_step_row.Statement.{statement}
-use Rattle.stages.proofs.play_step_row.Tie as tie
+use Rattle.step.specs.Step.{printed_end, printed_over}
+use Rattle.stages.proofs.play_step_row.Goals as goal
 
 -- at any other stage nothing is done
 not-steps : (state : State) (line records : List ℕ) → (state.stage ≡ Steps → ⊥) → (read_text state line records ≡ []) × (read_records state line records ≡ records)
@@ -21,28 +20,21 @@ not-steps state line records other = go state.stage other
     go Steps h = absurd (h refl)
     go NoTable h = (refl, refl)
 
--- ---- the needs
-
-enum_told : tie.Need-enum-told
-enum_told c = search rules
-
-play-line-requires : tie.Need-play-line-requires
-play-line-requires c κs = search rules
-
-same_length : tie.Need-same-length
-same_length c = search rules
-
-returns : tie.Need-returns
+pub returns-in-Steps : goal.returns-in-Steps
 unfolding read_text read_records
-returns c = rw c.before.before.before.before.before.before.enum_told.given.1 c.before.before.play-line.ensures
+returns-in-Steps c = record {
+  value = rw c.in-Steps.is c.play_line.ensures.value;
+  out_after = rw c.in-Steps.is c.play_line.ensures.out_after;
+  records_after = rw c.in-Steps.is c.play_line.ensures.records_after;
+}
 
-returns-2 : tie.Need-returns-2
-returns-2 c =
-    let s = c.before.before.before.args in
-    let (t, r) = not-steps s.state s.line.now s.records.now (λ e. miss (0 ∷ 1 ∷ 2 ∷ 4 ∷ []) 3 tt (rw e at c.match.keys2)) in
+pub returns : goal.returns
+returns c =
+    let s = c.args in
+    let (t, r) = not-steps s.state s.line.now s.records.now c.in_default.not-Steps in
     let (l, o) = prints-nothing s.at s.out.now in
-    rw (t, r) (l, (o, refl))
-
-pub play-step-row-spec : {M : Type 1} → statement M
-play-step-row-spec =
-    tie.close (tie.spec enum_told play-line-requires same_length returns returns-2)
+    record {
+      value = l ∙ ap (λ (text : List ℕ). printed_end s.at text s.out.now) (sym t);
+      out_after = o ∙ ap (λ (text : List ℕ). printed_over s.at text s.out.now) (sym t);
+      records_after = sym r;
+    }
