@@ -1,7 +1,7 @@
 -- The first line of a piece of the input: where it ends, how it is found there, and what comes of it. From the definitions of specs/Inner.antt and
 -- specs/Bytes.antt, for any bytes.
 -- Assumes nothing.
-use mathlib.Core.Path.{◌≡◌, refl, sym, ap, ap₂, ◌∙◌}
+use mathlib.Core.Path.{◌≡◌, sym, ap, ap₂, ◌∙◌}
 use mathlib.Core.Logic.{inl, inr}
 use mathlib.Core.List.{List, [], ◌∷◌, ◌++◌}
 use Prim.Native.Nat.{ℕ, suc, ◌+◌, ◌-◌, ◌≤◌, ◌<◌, min}
@@ -21,7 +21,7 @@ use Rattle.stages.specs.Stages.{line_space, after_step_row, after_line, line_rec
 use Rattle.stages.proofs.LineEnds as stages
 use Rattle.stages.proofs.LongLines.{front-enough}
 use Rattle.lines.specs.declared.Run.{Run}
-use Rattle.lines.specs.Bytes.{Progress, after_line_end, line_end_text, after_bytes, bytes_text, held_bytes, progress, through}
+use Rattle.lines.specs.Bytes.{Progress, after_line_end, line_end_text, bytes_text, held_bytes, progress, through}
 use Rattle.lines.specs.Inner.{FeedAt, InPlace, UsesLine}
 use Rattle.lines.proofs.Pieces.{with_line, bytes-held, line-ended, line-ended-text}
 
