@@ -16,15 +16,7 @@ use config::Config;
 use refusal::Verdict;
 
 // Opens the day: makes every record empty. The code is 0, or the refusal's number.
-pub fn mbrb_open(
-    n: u8,
-    t: u8,
-    d: u8,
-    own: u8,
-    day: u32,
-    quorum: u32,
-    records: &mut [u8],
-) -> u32
+pub fn mbrb_open(n: u8, t: u8, d: u8, own: u8, day: u32, quorum: u32, records: &mut [u8]) -> u32
     ensures value { result ≡ opened_code (opened (config_of n t d own day quorum) records.old) }
     ensures records_after { records.new ≡ open_records (config_of n t d own day quorum) records.old }
 {
