@@ -7,8 +7,7 @@ use Prim.Native.Nat.{ℕ, zero, suc, ◌+◌, ◌-◌, ◌*◌, ◌/◌, ◌%◌
 use native.Mathlib.Omega.{arith}
 use lib.Dec.{eqb, lit<}
 use borrow.Author.Tests.{eqb-true, eq-eqb, ne_eqb}
-use lib.ListN.{length, get_or, take, drop, length-drop, take-append-drop}
-use lib.Seq.{take_all, take-add, drop-drop}
+use lib.ListN.{length, get_or, take, drop}
 use Rattle.octets.specs.Octets.{Bytes, number, bytes_of, part, word_of, words, filled}
 use Rattle.octets.proofs.Numbers.{bytes_of-split, bytes_of-low, bytes_of-number, length_part, number-high, number-low}
 use Rattle.octets.proofs.WordRead.{elements-part, word_number, word_bytes}

@@ -13,7 +13,7 @@ use Rattle.octets.proofs.Numbers.{bytes-part, number_lt}
 use Rattle.signers.specs.Signers.{within}
 use Rattle.signers.proofs.Members.{lt-within}
 use Rattle.refusal.specs.Outcome.{refused}
-use Rattle.refusal.proofs.Reasons.{asked, refused-asked}
+use Rattle.refusal.proofs.Reasons.{refused-asked}
 use Rattle.config.specs.declared.Config.{Config}
 use Rattle.bundle.specs.Bundle.{header_in, header_reasons, read_reasons, read, header_of_day, bundle_of, write_reasons, write}
 use Rattle.bundle.specs.Refusals.{RefusedWriteChangesNothing, RefusedReadGivesNothing, NeverSevenWith64}

@@ -1,14 +1,13 @@
 -- R10.3 and R10.4: the two statements of specs/RoundTrip.antt, proved.
 -- Assumes nothing.
 use mathlib.Core.Path.{◌≡◌, refl, sym, ap, ap₂, ◌∙◌, subst}
-use mathlib.Core.Bool.{true, cond}
+use mathlib.Core.Bool.{true}
 use mathlib.Core.List.{List, [], ◌∷◌, ◌++◌, append_assoc}
 use Prim.Native.Nat.{ℕ, ◌<◌, ◌^◌}
 use native.Mathlib.Nat.{lt_of_lt_of_le}
 use native.Mathlib.Omega.{arith}
 use lib.ListN.{length, get_or, drop, length-drop, take-append-drop}
 use lib.Pow.{pow_mono}
-use lib.Dec.{eqb}
 use lib.Seq.{drop-drop, take_all, take-add}
 use borrow.Author.Tests.{eq-eqb, not-false}
 use Rattle.octets.specs.Octets.{Bytes, number, bytes_of, part}

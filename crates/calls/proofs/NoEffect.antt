@@ -1,7 +1,7 @@
 -- A refusal changes nothing, and 7 never comes with 64 nodes: the claims of specs/Refusals.antt, from the definitions of what each call leaves.
 -- Assumes nothing.
 use mathlib.Core.Path.{◌≡◌, refl, sym, ap, ◌∙◌}
-use mathlib.Core.Bool.{true, true≢false}
+use mathlib.Core.Bool.{true≢false}
 use mathlib.Core.List.{List}
 use Prim.Native.Nat.{ℕ}
 use Rattle.refusal.specs.Outcome.{Outcome, refused, done, checked, ◌and_then◌}

@@ -5,6 +5,8 @@
 // It shows how the calls are used. A node has 1,024 bytes of records for each node of the system, opens the day
 // over them once, and from then on lends them, with 32 outgoing bytes, to each call. It sends the outgoing
 // bytes to all when the answer is announced, signed or delivered. No call keeps anything elsewhere.
+//
+// Where a write fails, the program ends with its error.
 #![tactic(auto)]
 
 mod print;
@@ -17,6 +19,7 @@ use bundle::Header;
 use calls::{Announcement, Receipt};
 use config::Config;
 use refusal::{Refusal, Verdict};
+use std::io;
 
 // The payload of the run.
 const PAYLOAD: [u8; payload::SIZE] = [0, 1, 2, 3, 4, 5, 6, 7, 8, 9, 10, 11, 12, 13, 14, 15];
@@ -26,7 +29,7 @@ pub(crate) const RECORDS_SIZE: usize = config::RECORD_SIZE * (config::SLOTS as u
 
 // The seven steps; of each step that sends, the outgoing bytes are kept. What a node receives is what a node
 // sent, as the rows of the run have it, but for step 6.
-fn main() {
+fn main(rt: HostRuntime) -> io::Result<()> {
     let mut records0 = opened(0);
     let mut records1 = opened(1);
     let mut records2 = opened(2);
@@ -35,17 +38,17 @@ fn main() {
     let mut sent2 = [0u8; bundle::SIZE];
     let mut sent4 = [0u8; bundle::SIZE];
     let mut sent7 = [0u8; bundle::SIZE];
-    text(b"line act unit answer reason count\n");
-    sign(&mut records0, &mut records1, &mut sent1, &mut sent2);
-    deliver(&mut records2, &sent2, &mut sent4);
-    forge(&mut records3);
+    text(&rt, b"line act unit answer reason count\n")?;
+    sign(&rt, &mut records0, &mut records1, &mut sent1, &mut sent2)?;
+    deliver(&rt, &mut records2, &sent2, &mut sent4)?;
+    forge(&rt, &mut records3)?;
     // Node 0 hears of a quorum for its own payload, and delivers it like any other.
-    receive(7, 0, &sent4, &mut records0, &mut sent7);
-    deliveries(&records0, &records1, &records2, &records3);
-    bundles(&sent1, &sent2, &sent4, &sent7);
-    payload_shown(&records2);
-    quorum_heard(records1, &sent4);
-    refusals::all(records1, records2, sent1);
+    receive(&rt, 7, 0, &sent4, &mut records0, &mut sent7)?;
+    deliveries(&rt, &records0, &records1, &records2, &records3)?;
+    bundles(&rt, &sent1, &sent2, &sent4, &sent7)?;
+    payload_shown(&rt, &records2)?;
+    quorum_heard(&rt, records1, &sent4)?;
+    refusals::all(&rt, records1, records2, sent1)
 }
 
 // The configuration at one of the run's four nodes, of which one may lie, on day 7, with the least quorum, which is 3.
@@ -62,25 +65,31 @@ fn opened(own: u8) -> [u8; RECORDS_SIZE] {
 }
 
 // Node 0 announces, and node 1 signs what it hears. On hearing it again node 1 has nothing to send.
-fn sign(records0: &mut [u8], records1: &mut [u8], sent1: &mut [u8], sent2: &mut [u8]) {
+fn sign(
+    rt: &impl Print,
+    records0: &mut [u8],
+    records1: &mut [u8],
+    sent1: &mut [u8],
+    sent2: &mut [u8],
+) -> io::Result<()> {
     let mut unsent = [0u8; bundle::SIZE];
-    broadcast(1, 0, records0, sent1);
-    receive(2, 1, sent1, records1, sent2);
-    receive(3, 1, sent1, records1, &mut unsent);
+    broadcast(rt, 1, 0, records0, sent1)?;
+    receive(rt, 2, 1, sent1, records1, sent2)?;
+    receive(rt, 3, 1, sent1, records1, &mut unsent)
 }
 
 // Two signatures and its own make a quorum of three at node 2. Then its own bundle comes back to it.
-fn deliver(records2: &mut [u8], sent2: &[u8], sent4: &mut [u8]) {
+fn deliver(rt: &impl Print, records2: &mut [u8], sent2: &[u8], sent4: &mut [u8]) -> io::Result<()> {
     let mut unsent = [0u8; bundle::SIZE];
-    receive(4, 2, sent2, records2, sent4);
-    receive(5, 2, sent4, records2, &mut unsent);
+    receive(rt, 4, 2, sent2, records2, sent4)?;
+    receive(rt, 5, 2, sent4, records2, &mut unsent)
 }
 
 // Node 3 gets a bundle for a slot of node 0, signed by node 1 alone.
-fn forge(records3: &mut [u8]) {
+fn forge(rt: &impl Print, records3: &mut [u8]) -> io::Result<()> {
     let bundle = forged();
     let mut unsent = [0u8; bundle::SIZE];
-    receive(6, 3, &bundle, records3, &mut unsent);
+    receive(rt, 6, 3, &bundle, records3, &mut unsent)
 }
 
 // The bundle of step 6. `bundle::write` refuses to write it, and `encode` checks nothing.
@@ -97,91 +106,121 @@ fn forged() -> [u8; bundle::SIZE] {
 }
 
 // A step of act A: the node announces the payload.
-fn broadcast(step: u64, own: u8, records: &mut [u8], out: &mut [u8]) {
+fn broadcast(
+    rt: &impl Print,
+    step: u64,
+    own: u8,
+    records: &mut [u8],
+    out: &mut [u8],
+) -> io::Result<()> {
     let answer = calls::broadcast(node(own), &PAYLOAD, records, out);
-    broadcast_row(step, own, answer);
+    broadcast_row(rt, step, own, answer)
 }
 
 // The number that was used is in the answer, too; the printed row does not have it (R16.2).
-fn broadcast_row(step: u64, own: u8, answer: Announcement) {
-    decimal(step);
-    text(b" A ");
-    decimal(own as u64);
+fn broadcast_row(rt: &impl Print, step: u64, own: u8, answer: Announcement) -> io::Result<()> {
+    decimal(rt, step)?;
+    text(rt, b" A ")?;
+    decimal(rt, own as u64)?;
     match answer {
-        Announcement::Announced(_) => text(b" announced 0 "),
-        Announcement::Refused(reason) => refused(reason),
+        Announcement::Announced(_) => text(rt, b" announced 0 ")?,
+        Announcement::Refused(reason) => refused(rt, reason)?,
     }
-    decimal(answer.count() as u64);
-    text(b"\n");
+    decimal(rt, answer.count() as u64)?;
+    text(rt, b"\n")
 }
 
 // A step of act B: the node receives a bundle.
-fn receive(step: u64, own: u8, bundle: &[u8], records: &mut [u8], out: &mut [u8]) {
+fn receive(
+    rt: &impl Print,
+    step: u64,
+    own: u8,
+    bundle: &[u8],
+    records: &mut [u8],
+    out: &mut [u8],
+) -> io::Result<()> {
     let answer = calls::receive(node(own), bundle, records, out);
-    receive_row(step, own, answer);
+    receive_row(rt, step, own, answer)
 }
 
 // What is signed or delivered is to be sent; what is kept or noted is not.
-fn receive_row(step: u64, own: u8, answer: Receipt) {
-    decimal(step);
-    text(b" B ");
-    decimal(own as u64);
+fn receive_row(rt: &impl Print, step: u64, own: u8, answer: Receipt) -> io::Result<()> {
+    decimal(rt, step)?;
+    text(rt, b" B ")?;
+    decimal(rt, own as u64)?;
     match answer {
-        Receipt::Kept(_) => text(b" kept 0 "),
-        Receipt::Signed(_) => text(b" signed 0 "),
-        Receipt::Delivered(_) => text(b" delivered 0 "),
-        Receipt::Noted(_) => text(b" noted 0 "),
-        Receipt::Refused(reason) => refused(reason),
+        Receipt::Kept(_) => text(rt, b" kept 0 ")?,
+        Receipt::Signed(_) => text(rt, b" signed 0 ")?,
+        Receipt::Delivered(_) => text(rt, b" delivered 0 ")?,
+        Receipt::Noted(_) => text(rt, b" noted 0 ")?,
+        Receipt::Refused(reason) => refused(rt, reason)?,
     }
-    decimal(answer.count() as u64);
-    text(b"\n");
+    decimal(rt, answer.count() as u64)?;
+    text(rt, b"\n")
 }
 
 // What a step's row says of a refusal.
-fn refused(reason: Refusal) {
-    text(b" refused ");
-    decimal(refusal::number(reason) as u64);
-    text(b" ");
+fn refused(rt: &impl Print, reason: Refusal) -> io::Result<()> {
+    text(rt, b" refused ")?;
+    decimal(rt, refusal::number(reason) as u64)?;
+    text(rt, b" ")
 }
 
 // The slots that some node has delivered, by sender and then by sequence number: sixteen of each sender.
-fn deliveries(records0: &[u8], records1: &[u8], records2: &[u8], records3: &[u8]) {
-    text(b"sender number units percent\n");
+fn deliveries(
+    rt: &impl Print,
+    records0: &[u8],
+    records1: &[u8],
+    records2: &[u8],
+    records3: &[u8],
+) -> io::Result<()> {
+    text(rt, b"sender number units percent\n")?;
     for slot in 0..64 {
         count(
+            rt,
             slot / config::SLOTS,
             slot % config::SLOTS,
             records0,
             records1,
             records2,
             records3,
-        );
+        )?;
     }
+    Ok(())
 }
 
 // How many of the four nodes have delivered the slot, if any has.
-fn count(sender: u8, seq: u8, records0: &[u8], records1: &[u8], records2: &[u8], records3: &[u8]) {
+fn count(
+    rt: &impl Print,
+    sender: u8,
+    seq: u8,
+    records0: &[u8],
+    records1: &[u8],
+    records2: &[u8],
+    records3: &[u8],
+) -> io::Result<()> {
     let nodes = delivered(0, sender, seq, records0)
         + delivered(1, sender, seq, records1)
         + delivered(2, sender, seq, records2)
         + delivered(3, sender, seq, records3);
     if nodes != 0 {
-        slot_row_lem(sender, seq, nodes);
+        slot_row(rt, sender, seq, nodes)?;
     }
+    Ok(())
 }
 
 // A slot, how many nodes delivered it, and how many percent of the four: quarters, so that nothing is rounded (R16.8).
-fn slot_row_lem(sender: u8, seq: u8, nodes: u64)
+fn slot_row(rt: &impl Print, sender: u8, seq: u8, nodes: u64) -> io::Result<()>
     requires { nodes ≤ 4 }
 {
-    decimal(sender as u64);
-    text(b" ");
-    decimal(seq as u64);
-    text(b" ");
-    decimal(nodes);
-    text(b" ");
-    decimal(100 * nodes / 4);
-    text(b"\n");
+    decimal(rt, sender as u64)?;
+    text(rt, b" ")?;
+    decimal(rt, seq as u64)?;
+    text(rt, b" ")?;
+    decimal(rt, nodes)?;
+    text(rt, b" ")?;
+    decimal(rt, 100 * nodes / 4)?;
+    text(rt, b"\n")
 }
 
 // How many deliveries of the slot the node's records show: one or none.
@@ -195,40 +234,49 @@ fn delivered(own: u8, sender: u8, seq: u8, records: &[u8]) -> u64
 }
 
 // The outgoing bytes of the four steps that send.
-fn bundles(sent1: &[u8], sent2: &[u8], sent4: &[u8], sent7: &[u8]) {
-    text(b"what was sent: line, unit, bundle\n");
-    bundle_row(1, 0, sent1);
-    bundle_row(2, 1, sent2);
-    bundle_row(4, 2, sent4);
-    bundle_row(7, 0, sent7);
+fn bundles(
+    rt: &impl Print,
+    sent1: &[u8],
+    sent2: &[u8],
+    sent4: &[u8],
+    sent7: &[u8],
+) -> io::Result<()> {
+    text(rt, b"what was sent: line, unit, bundle\n")?;
+    bundle_row(rt, 1, 0, sent1)?;
+    bundle_row(rt, 2, 1, sent2)?;
+    bundle_row(rt, 4, 2, sent4)?;
+    bundle_row(rt, 7, 0, sent7)
 }
 
 // The bundle that a node sent in a step.
-fn bundle_row(step: u64, own: u8, bundle: &[u8]) {
-    decimal(step);
-    text(b" ");
-    decimal(own as u64);
-    text(b" ");
-    bundle_hex(bundle);
-    text(b"\n");
+fn bundle_row(rt: &impl Print, step: u64, own: u8, bundle: &[u8]) -> io::Result<()> {
+    decimal(rt, step)?;
+    text(rt, b" ")?;
+    decimal(rt, own as u64)?;
+    text(rt, b" ")?;
+    bundle_hex(rt, bundle)?;
+    text(rt, b"\n")
 }
 
 // What node 2 delivered in node 0's first slot. `delivered` lends it out of the records and copies nothing.
-fn payload_shown(records2: &[u8]) {
-    text(b"the body that unit 2 shows\n");
-    payload_hex(calls::delivered(node(2), 0, 0, records2));
-    text(b"\n");
+fn payload_shown(rt: &impl Print, records2: &[u8]) -> io::Result<()> {
+    text(rt, b"the body that unit 2 shows\n")?;
+    payload_hex(rt, calls::delivered(node(2), 0, 0, records2))?;
+    text(rt, b"\n")
 }
 
 // Node 1 has signed, and now hears of a quorum. The records are a copy: the run goes on without this.
-fn quorum_heard(before: [u8; RECORDS_SIZE], bundle: &[u8]) {
+fn quorum_heard(rt: &impl Print, before: [u8; RECORDS_SIZE], bundle: &[u8]) -> io::Result<()> {
     let mut records = before;
     let mut out = [0u8; bundle::SIZE];
-    text(b"has unit 1 something to send on taking the bundle of line 4\n");
+    text(
+        rt,
+        b"has unit 1 something to send on taking the bundle of line 4\n",
+    )?;
     if to_send(bundle, &mut records, &mut out) {
-        text(b"yes\n");
+        text(rt, b"yes\n")
     } else {
-        text(b"no\n");
+        text(rt, b"no\n")
     }
 }
 

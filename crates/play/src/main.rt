@@ -3,48 +3,45 @@
 // What is printed for an input is what crates/run promises; here bytes are read and written.
 #![tactic(auto)]
 
-use libc::{STDERR_FILENO, STDIN_FILENO, STDOUT_FILENO};
 use nodes::RECORDS_SPACE;
 use run::{CHUNK, OUT_SPACE};
 use stages::LINE_SPACE;
+use std::io::Read;
 
-// A proved loop has to end, and nothing says that an input does. So the loop counts its reads down from a
-// number that no run uses up: at a billion a second this takes 584 years.
-fn main() {
+// A proved loop has to end, and nothing says that an input does. So the loop counts its reads, up to a number
+// that no run uses up: at a billion a second this takes 584 years.
+fn main(rt: HostRuntime) {
+    let mut input = rt.stdin();
     let mut chunk = [0u8; CHUNK];
     let mut line = [0u8; LINE_SPACE];
     let mut records = [0u8; RECORDS_SPACE];
     let mut out = [0u8; OUT_SPACE];
     let mut run = run::start();
-    let mut reads = u64::MAX;
-    while 0 < reads {
-        reads -= 1;
-        let got = libc::read(STDIN_FILENO, &mut chunk);
-        if got < 0 {
-            io::write_all(STDERR_FILENO, b"play: reading failed\n");
+    for _ in 0..u64::MAX {
+        let Ok(n) = input.read(&mut chunk) else {
+            let _ = eprintln!(rt; "play: reading failed");
             return;
-        }
-        if got == 0 {
+        };
+        if n == 0 {
             let len = run::finish(run, &line, &mut records, &mut out);
-            print(&out[..len]);
+            print(&rt, &out[..len]);
             return;
         }
-        let n = io::count(got, &chunk);
         // All n bytes are used: the buffer has room for no more than CHUNK.
         let fed = run::feed(run, &chunk[..n], &mut line, &mut records, &mut out);
         run = fed.run;
         let len = fed.len;
-        if !print(&out[..len]) {
+        if !print(&rt, &out[..len]) {
             return;
         }
     }
 }
 
 // Whether all was written.
-fn print(text: &[u8]) -> bool {
-    if io::write_all(STDOUT_FILENO, text) {
+fn print(rt: &(impl Print + Eprint), text: &[u8]) -> bool {
+    if rt.write_all(text).is_ok() {
         return true;
     }
-    io::write_all(STDERR_FILENO, b"play: writing failed\n");
+    let _ = eprintln!(rt; "play: writing failed");
     false
 }

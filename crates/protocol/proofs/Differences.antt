@@ -13,7 +13,7 @@ use Rattle.octets.proofs.Same.{same-says, same_self}
 use Rattle.signers.specs.Signers.{member, insert, union, size}
 use Rattle.signers.proofs.Members.{insert-own}
 use Rattle.refusal.specs.Outcome.{Outcome, after}
-use Rattle.protocol.specs.Update.{Note, Nothing, Noted, Record, Empty, Held, Delivered, noted_signers, Update, signed, delivered, noted, delivers, update_reasons, joined_signers, update_result, update}
+use Rattle.protocol.specs.Update.{Note, Nothing, Noted, Record, Empty, Held, Delivered, noted_signers, Update, signed, delivered, noted, update_reasons, joined_signers, update_result}
 use Rattle.protocol.specs.Trace as trace
 use Rattle.protocol.specs.Trace.{Trace, start, ◌then◌calls◌}
 use Rattle.protocol.specs.OneSlot.{Act, outcome, record_after, signs, delivers_this, current_record, ever}

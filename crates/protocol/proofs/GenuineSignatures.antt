@@ -15,7 +15,7 @@ use Rattle.octets.proofs.Same.{same_self}
 use Rattle.signers.specs.Sets.{NodeSet, count}
 use Rattle.signers.specs.Signers.{member, insert, union, size, within}
 use Rattle.signers.proofs.Members.{nobody, insert-own, insert-keeps, union_left, member_union, member-insert, lt-within, within-union, within-insert, size-count, size-insert}
-use Rattle.refusal.specs.Outcome.{Outcome, refused, after}
+use Rattle.refusal.specs.Outcome.{Outcome, after}
 use Rattle.protocol.specs.Update.{Record, Empty, Held, Delivered, Update}
 use Rattle.protocol.specs.Trace as trace
 use Rattle.protocol.specs.Trace.{Trace, ◌then◌calls◌}

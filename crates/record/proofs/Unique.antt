@@ -6,7 +6,6 @@ use mathlib.Core.List.{List}
 use Prim.Native.Nat.{ℕ}
 use Rattle.octets.specs.Octets.{number, bytes_of, part}
 use Rattle.octets.proofs.Numbers.{number-bytes_of}
-use Rattle.payload.specs.Payload as payload
 use Rattle.payload.proofs.Laws as payload-laws
 use Rattle.note.proofs.Unique as note-laws
 use Rattle.refusal.specs.Outcome.{Outcome, refused, done}

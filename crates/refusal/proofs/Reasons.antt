@@ -79,6 +79,13 @@ pub no-effect : {A B : Type 0} (outcome : Outcome A) (result : A → B) (before 
     → (refused number ≡ plain outcome) × (before ≡ after outcome result before)
 no-effect outcome result before number e = (rw e, rw e)
 
+-- each of the two by itself
+pub plain-told : {A : Type 0} (outcome : Outcome A) (number : ℕ) → outcome ≡ refused number → refused number ≡ plain outcome
+plain-told outcome number e = rw e
+
+pub left-alone : {A B : Type 0} (outcome : Outcome A) (result : A → B) (before : B) (number : ℕ) → outcome ≡ refused number → before ≡ after outcome result before
+left-alone outcome result before number e = rw e
+
 -- some reason with this number applies
 abbrev pub asked : (number : ℕ) → List Reason → Bool
 asked number [] = false

@@ -86,7 +86,7 @@ fn sender_rows(config: Config, sender: u8, records: &[u8], at: usize, out: &mut 
     let mut seq = 0;
     while seq < SLOTS {
         let delivered = shown(config, sender, seq, records);
-        end = slot_row_lem(config.n, sender, seq, delivered, end, out);
+        end = slot_row(config.n, sender, seq, delivered, end, out);
         seq += 1;
     }
     end
@@ -118,7 +118,7 @@ fn shown(config: Config, sender: u8, seq: u8, records: &[u8]) -> u8
 }
 
 // The row of a slot, if some node has delivered it.
-fn slot_row_lem(n: u8, sender: u8, seq: u8, delivered: u8, at: usize, out: &mut [u8]) -> usize
+fn slot_row(n: u8, sender: u8, seq: u8, delivered: u8, at: usize, out: &mut [u8]) -> usize
     requires { at + slot_space ≤ length out.old }
     ensures value { result ≡ at + length (slot_text n sender seq delivered) }
     ensures out_after { out.new ≡ written at (slot_text n sender seq delivered) out.old }

@@ -1,7 +1,7 @@
 -- What the nodes of a system have in common. They share the configuration but for own numbers, so they have one quorum, and the same slots are in range.
 -- A bundle that one of them puts together names its slot, and every node reads it back.
 -- Assumes nothing.
-use mathlib.Core.Path.{◌≡◌, refl, sym, ap, ◌∙◌, subst}
+use mathlib.Core.Path.{◌≡◌, sym, ap, ◌∙◌, subst}
 use mathlib.Core.Bool.{true, false, true≢false}
 use mathlib.Core.List.{List}
 use Prim.Native.Nat.{ℕ, ◌<◌, ◌^◌}

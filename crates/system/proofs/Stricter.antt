@@ -10,7 +10,7 @@ use Rattle.signers.specs.Sets.{count, both}
 use Rattle.config.specs.Config.{with_quorum}
 use Rattle.protocol.specs.Trace as trace
 use Rattle.protocol.specs.Trace.{each}
-use Rattle.system.specs.Demand3.{in_slot, correct, correct_count, opens, announces_in, announces, delivers_in, delivers, sends, sends_this, sends_in, signs, reaches, ever, Assumed}
+use Rattle.system.specs.Demand3.{in_slot, correct, correct_count, opens, announces_in, announces, delivers_in, delivers, sends, sends_in, signs, reaches, ever, Assumed}
 use Rattle.system.specs.Stricter.{three_nodes, three, announcement, slot, gets, early, list, StricterNotVacuous}
 use Rattle.system.proofs.Computing.{calls-compute}
 use Rattle.system.proofs.ComputedTests.{given-before, unforged-now, unforged-test, lawful-test, lawful-says, sent-test, sent-says}

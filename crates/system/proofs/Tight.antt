@@ -1,7 +1,7 @@
 -- What specs/Tight.antt claims, each by a list of calls that is written out: the tests, and what is delivered, are computed.
 -- Assumes nothing.
 use mathlib.Core.Path.{◌≡◌, refl, ap}
-use mathlib.Core.Bool.{Bool, true, false, not, ◌&&◌, ◌||◌, beq, and-eq-true_iff, true≢false}
+use mathlib.Core.Bool.{Bool, true, not, ◌&&◌, ◌||◌, beq, and-eq-true_iff, true≢false}
 use mathlib.Core.Logic.{inl}
 use mathlib.Core.List.{List}
 use Prim.Native.Nat.{ℕ, ◌-◌, ◌≤◌}

@@ -54,7 +54,7 @@ loop-less c = omega arith
 loop-again : tie.Need-loop-preserved invariant-loop decreases-loop
 loop-again c =
     let l = c.before.before.before.before.before in
-    let s = c.before.before.slot_row_lem.ensures in
+    let s = c.before.before.slot_row.ensures in
     let counted = c.before.before.before.before.shown.ensures in
     (omega arith, risen-more (rows l) slot_space (short l) (room l) l.before.loop.invariant.1 (rw (← counted) s.0) (rw (← counted) s.1))
 

@@ -1,4 +1,4 @@
--- `slot_row_lem` meets its contract: eight texts written one after the other are one. Assumes nothing.
+-- `slot_row` meets its contract: eight texts written one after the other are one. Assumes nothing.
 use mathlib.Core.Path.{◌≡◌, sym, ap, ◌∙◌}
 use mathlib.Core.List.{List}
 use Prim.Native.Nat.{ℕ, ◌+◌}
@@ -11,8 +11,8 @@ use Rattle.text.proofs.WriteLaws.{written-empty, length-written}
 use Rattle.text.proofs.WrittenTexts.{puts, ◌then◌}
 use Rattle.summary.specs.Summary.{slot_text}
 use Rattle.summary.proofs.LastRows.{slot_row, row-length, slot_row_lem}
-use Rattle.summary.proofs.slot_row_lem.Statement.{statement}
-use Rattle.summary.proofs.slot_row_lem.Tie as tie
+use Rattle.summary.proofs.slot_row.Statement.{statement}
+use Rattle.summary.proofs.slot_row.Tie as tie
 
 -- ---- the places on the way, each from a later one: the four numbers, and the byte after each
 
