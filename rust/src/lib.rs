@@ -21,14 +21,14 @@ pub fn setting(name: &str, usual: u64) -> u64 {
         .unwrap_or_else(|_| panic!("{name} is not a number: {text}"))
 }
 
-/// Where the proved run program is: where `rt check play` puts it, unless `MBRB_PLAY` names another.
+/// Where the proved run program is: where `rt run` in crates/play puts it, unless `MBRB_PLAY` names another.
 pub fn program_under_test() -> PathBuf {
-    let built = concat!(env!("CARGO_MANIFEST_DIR"), "/../target/bin/play");
+    let built = concat!(env!("CARGO_MANIFEST_DIR"), "/../crates/play/out/play");
     let path = std::env::var_os("MBRB_PLAY").unwrap_or_else(|| built.into());
     let path = PathBuf::from(path);
     assert!(
         path.is_file(),
-        "{}: no such program, `rt check play` builds it",
+        "{}: no such program, `rt run` in crates/play builds it",
         path.display()
     );
     path

@@ -1,7 +1,7 @@
 // The C interface: opening a day and receiving through numbers and byte slices, with one code for an answer.
 //
-// include/mbrb.h declares the functions for C and C++, with those of crates mbrb_broadcast, mbrb_preview and mbrb_setpoint.
-// A slice passes as a pointer and a length; what the host must see to there is in that file.
+// Crate mbrb_c exports the two to C. The codes and their definitions serve mbrb_broadcast, mbrb_preview, mbrb_setpoint and
+// mbrb_equivocators too.
 #![tactic(auto)]
 
 ghost use Rattle.std.specs.Prelude.{◌≡◌};
@@ -16,16 +16,7 @@ use config::Config;
 use refusal::Verdict;
 
 // Opens the day: makes every record empty. The code is 0, or the refusal's number.
-#[unsafe(no_mangle)]
-pub extern "C" fn mbrb_open(
-    n: u8,
-    t: u8,
-    d: u8,
-    own: u8,
-    day: u32,
-    quorum: u32,
-    records: &mut [u8],
-) -> u32
+pub fn mbrb_open(n: u8, t: u8, d: u8, own: u8, day: u32, quorum: u32, records: &mut [u8]) -> u32
     ensures value { result ≡ opened_code (opened (config_of n t d own day quorum) records.old) }
     ensures records_after { records.new ≡ open_records (config_of n t d own day quorum) records.old }
 {
@@ -33,8 +24,7 @@ pub extern "C" fn mbrb_open(
 }
 
 // Receives a bundle. The code is 100 for kept, 101 for signed, 102 for delivered, 103 for noted, or the refusal's number.
-#[unsafe(no_mangle)]
-pub extern "C" fn mbrb_receive(
+pub fn mbrb_receive(
     n: u8,
     t: u8,
     d: u8,
