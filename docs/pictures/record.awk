@@ -1,5 +1,5 @@
 # The life of a record: what a unit keeps of one slot, and every way in which a call changes it or leaves it as it is.
-# The cases are those of update and updateReasons in crates/protocol/specs/Update.antt, and of announcing in crates/calls/specs/Broadcast.antt.
+# The cases are those of update and update_reasons in crates/protocol/specs/Update.antt, and of announcing in crates/calls/specs/Broadcast.antt.
 
 # a state: its name, and from `top` on what the record has in it
 function state(x, y, width, height, name, top, has, more) {
