@@ -240,8 +240,8 @@
  *
  *   - Memory: MBRB_RECORDS_SIZE(n) bytes of records, which the host gives. The library allocates nothing and keeps no
  *     data of its own.
- *   - Stack: 92 bytes for mbrb_broadcast, 124 for mbrb_receive, 104 for mbrb_preview, 24 for mbrb_open, 236 for
- *     mbrb_setpoint, 297 for mbrb_equivocators, 153 for mbrb_check_equivocators, whatever they are given; and below
+ *   - Stack: 92 bytes for mbrb_broadcast, 121 for mbrb_receive, 101 for mbrb_preview, 40 for mbrb_open, 236 for
+ *     mbrb_setpoint, 313 for mbrb_equivocators, 217 for mbrb_check_equivocators, whatever they are given; and below
  *     mbrb_open what the host's memset takes. Besides, up to 48 bytes of arguments that the caller puts there. Each
  *     figure is the deepest chain of frames in the machine code, return addresses included: tests/call_graph adds them
  *     up, and tests/footprint sees the same on a stack that was painted before.
@@ -249,15 +249,15 @@
  *     another. All are called by name, none by a pointer. tests/call_graph looks at the whole call graph, that of the
  *     program which is proved and that of the machine code. The memset below mbrb_open is the host's, and not looked
  *     into.
- *   - Code: 1,657 bytes for mbrb_open and mbrb_receive, 689 more where mbrb_broadcast is used, 1,297 more where
- *     mbrb_preview is, 862 more where mbrb_setpoint is, and 2,439 more where mbrb_equivocators or
+ *   - Code: 1,648 bytes for mbrb_open and mbrb_receive, 689 more where mbrb_broadcast is used, 1,247 more where
+ *     mbrb_preview is, 890 more where mbrb_setpoint is, and 2,517 more where mbrb_equivocators or
  *     mbrb_check_equivocators is: there are four more members in the library, and a host that calls nothing of one does
  *     not link it. The one symbol that the library takes from the host is memset, for mbrb_open.
- *   - Registers: no floating-point register is used, and of the vector registers xmm0 alone, by mbrb_broadcast,
- *     mbrb_receive and mbrb_setpoint. The first two clear the second half of a record by it, the third 128 bytes of its
- *     stack. So call these three only where vector registers are saved for what they interrupt.
- *   - mbrb_receive uses 68 bytes below the stack pointer (the red zone of the calling convention), mbrb_broadcast 36,
- *     mbrb_preview 48, mbrb_setpoint 124, mbrb_equivocators 17 and mbrb_check_equivocators 17, counted above. Where
+ *   - Registers: no floating-point register is used, and of the vector registers xmm0 alone, by mbrb_broadcast and
+ *     mbrb_setpoint. The first clears the second half of a record by it, the second 128 bytes of its stack. So call
+ *     these two only where vector registers are saved for what they interrupt.
+ *   - mbrb_receive uses 65 bytes below the stack pointer (the red zone of the calling convention), mbrb_broadcast 36,
+ *     mbrb_preview 45, mbrb_setpoint 124, mbrb_equivocators 17 and mbrb_check_equivocators 17, counted above. Where
  *     interrupts run on the stack of what they interrupt, they must leave the 128 bytes below it alone, as the
  *     convention asks.
  *   - Time: mbrb_open and mbrb_setpoint go through all records, mbrb_equivocators and mbrb_check_equivocators through

@@ -3,7 +3,7 @@
 use mathlib.Core.Path.{◌≡◌, refl, sym, ap, ap₂, ◌∙◌}
 use mathlib.Core.Bool.{◌&&◌, cond}
 use mathlib.Core.List.{List, ◌++◌}
-use Prim.Native.Nat.{ℕ, ◌^◌, ◌<◌}
+use Prim.Native.Nat.{ℕ, ◌-◌, ◌^◌, ◌<◌}
 use native.Mathlib.Omega.{arith}
 use lib.Dec.{eqb}
 use lib.ListN.{length, drop, length-drop, take-append-drop}
@@ -24,6 +24,13 @@ pub record Fits (b : Block) : Type 0 where
   pub second_fits : b.second < 2 ^ 64
   pub payload-fits : payload-laws.Fits b.payload
 
+-- each word is zero
+pub record Zeros (b : Block) : Type 0 where
+  pub first-zero : b.first ≡ 0
+  pub second-zero : b.second ≡ 0
+  pub high-zero : b.payload.high ≡ 0
+  pub low-zero : b.payload.low ≡ 0
+
 pub bytes-length : (b : Block) → length (bytes b) ≡ block_size
 unfolding bytes bytes_of payload.bytes
 bytes-length b = refl
@@ -32,12 +39,14 @@ bytes-length b = refl
 
 -- the 32 bytes, by two words and a payload, or zeros
 pub loaded-whole : (xs : List ℕ) (b : Block) → length xs ≡ block_size → Bytes xs → b.first ≡ word_of (part 0 8 xs)
-    → b.second ≡ word_of (part second_at 8 xs) → payload.bytes b.payload ≡ payload.loaded (part payload_at payload.payload_size xs)
+    → b.second ≡ word_of (part second_at 8 xs) → payload.bytes b.payload ≡ payload.loaded (part payload_at (length xs - payload_at) xs)
     → bytes b ≡ loaded xs
 unfolding loaded bytes
 loaded-whole xs b l each first second e =
+    let rest : length xs - payload_at ≡ payload.payload_size = omega arith in
     let last : payload.bytes b.payload ≡ drop payload_at xs =
     e
+    ∙ ap (λ (k : ℕ). payload.loaded (part payload_at k xs)) rest
     ∙ payload-laws.loaded_self (part payload_at payload.payload_size xs) (length_part xs payload_at payload.payload_size (omega arith))
     ∙ take_all payload.payload_size (drop payload_at xs) (simp length-drop (omega arith)) in
     ap₂ ◌++◌ (ap (bytes_of 8) first ∙ word_bytes xs 0 (omega arith) each)
@@ -45,10 +54,9 @@ loaded-whole xs b l each first second e =
     ∙ take-append-drop 8 xs
     ∙ rw (eq-eqb (length xs) block_size l)
 
-pub loaded-other : (xs : List ℕ) → (length xs ≡ block_size → ⊥)
-    → bytes (record { first = 0; second = 0; payload = record { high = 0; low = 0 } }) ≡ loaded xs
+pub loaded-other : (xs : List ℕ) (b : Block) → (length xs ≡ block_size → ⊥) → Zeros b → bytes b ≡ loaded xs
 unfolding loaded bytes payload.bytes bytes_of
-loaded-other xs l = rw (ne_eqb (length xs) block_size l)
+loaded-other xs b l z = rw (z.first-zero, z.second-zero, z.high-zero, z.low-zero, ne_eqb (length xs) block_size l)
 
 -- the bytes of a slice of the right length
 pub loaded_self : (xs : List ℕ) → length xs ≡ block_size → loaded xs ≡ xs

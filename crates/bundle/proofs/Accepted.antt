@@ -1,22 +1,21 @@
 -- What reading and writing accept and refuse, and that an answer is known by its number and values.
 -- Assumes nothing.
-use mathlib.Core.Path.{◌≡◌, ◌∙◌, sym, ap}
+use mathlib.Core.Path.{◌≡◌, ◌∙◌, sym}
 use mathlib.Core.Bool.{true, false, and-eq-true_iff, or-false}
 use mathlib.Core.List.{List, []}
 use Prim.Native.Nat.{ℕ}
+use Rattle.std.specs.Prelude.{Result}
 use borrow.Author.Tests.{eqb-true, eq-eqb, ne_eqb, not-true, not-false}
 use lib.ListN.{length, get_or}
 use Rattle.signers.specs.Signers.{member}
 use Rattle.refusal.specs.Outcome.{refused, done, unless}
-use Rattle.refusal.specs.Refusal.{number_of}
-use Rattle.refusal.proofs.Unique.{number-one, refused-number}
-use Rattle.refusal.proofs.Reasons.{passed, refused-not-done, Clear, pass, stop, done-clear, clear-done, append-clear, clear-append, refused-first, done_first, refused-asked}
+use Rattle.refusal.specs.declared.Refusal.{Refusal}
+use Rattle.refusal.proofs.Unique.{outcome-one}
+use Rattle.refusal.proofs.Reasons.{passed, Clear, pass, stop, done-clear, clear-done, append-clear, clear-append, refused-first, done_first, refused-asked}
 use Rattle.payload.specs.Payload.{payload_size}
 use Rattle.config.specs.declared.Config.{Config}
 use Rattle.config.specs.Config.{good}
 use Rattle.bundle.specs.declared.Header.{Header}
-use Rattle.bundle.specs.declared.Reading.{Reading}
-use Rattle.bundle.specs.declared.Reading.TheVariants.{Accepted, Refused}
 use Rattle.bundle.specs.Bundle.{reading_of, bundle_size, payload_start, payload_in, empty_start, bundle_of, slot_in, header_in, header_reasons, read_reasons, read, payload_part, payload_place, header_of_day, write_reasons, write}
 
 pub record Readable (config : Config) (bundle : List ℕ) : Type 0 where
@@ -58,11 +57,8 @@ readable-accepted config bundle r =
     )
 
 -- R17.1: a reading is known by its number and values, so the contract of `read` leaves one answer
-pub reading-one : (a b : Reading) → reading_of a ≡ reading_of b → a ≡ b
-reading-one (Accepted h) (Accepted k) e = let same : h ≡ k = cc in ap Accepted same
-reading-one (Accepted h) (Refused s) e = absurd (refused-not-done (number_of s) h (sym e))
-reading-one (Refused r) (Accepted k) e = absurd (refused-not-done (number_of r) k e)
-reading-one (Refused r) (Refused s) e = ap Refused (number-one r s (refused-number (number_of r) (number_of s) e))
+pub reading-one : (a b : Result Header Refusal) → reading_of a ≡ reading_of b → a ≡ b
+reading-one a b e = outcome-one (λ h. h) (λ h k same. same) a b e
 
 -- the payload of an accepted bundle is its last 16 bytes; of a refused one, the empty part at its start
 module _ (config : Config) (bundle : List ℕ) where

@@ -1,18 +1,17 @@
 -- The bytes of a bundle (R3.1), and what reading and writing one give and refuse (RULES section 10). The formats' number is `seq` here, and their body
 -- is `payload`.
 -- Assumes nothing.
-use Rattle.std.specs.Prelude.{cond, not, ◌&&◌, List, [], ◌∷◌, ◌++◌, ℕ, ltb, eqb, length, get_or, replicate}
+use Rattle.std.specs.Prelude.{cond, not, ◌&&◌, List, [], ◌∷◌, ◌++◌, ℕ, ltb, eqb, length, get_or, replicate, Result}
 use Rattle.octets.specs.Octets.{number, bytes_of, part}
 use Rattle.signers.specs.Signers.{member, within}
-use Rattle.refusal.specs.Refusal.{number_of}
-use Rattle.refusal.specs.Outcome.{Outcome, refused, done, Reason, ◌if◌, unless, after}
+use Rattle.refusal.specs.Refusal.{outcome_of}
+use Rattle.refusal.specs.declared.Refusal.{Refusal}
+use Rattle.refusal.specs.Outcome.{Outcome, Reason, ◌if◌, unless, after}
 use Rattle.payload.specs.Payload.{payload_size}
 use Rattle.config.specs.declared.Config.{Config}
 use Rattle.config.specs.declared.Slot.{Slot}
 use Rattle.config.specs.Config.{good, slots, slot_of_day}
 use Rattle.bundle.specs.declared.Header.{Header}
-use Rattle.bundle.specs.declared.Reading.{Reading}
-use Rattle.bundle.specs.declared.Reading.TheVariants.{Accepted, Refused}
 
 -- the slot of a header, and the header of a slot
 abbrev pub slot_of : Header → Slot
@@ -108,6 +107,5 @@ unfoldable pub encoded : Header → (payload out : List ℕ) → List ℕ
 encoded h payload out = cond (eqb (length out) bundle_size) (bundle_of h payload) out
 
 -- the number and values of each case of a reading (R17.3)
-abbrev pub reading_of : Reading → Outcome Header
-reading_of (Accepted h) = done h
-reading_of (Refused r) = refused (number_of r)
+abbrev pub reading_of : Result Header Refusal → Outcome Header
+reading_of reading = outcome_of (λ h. h) reading

@@ -15,7 +15,7 @@ ghost use Rattle.bundle.specs.Inner.{encoded_like};
 
 use config::Config;
 use payload::Payload;
-use refusal::{Refusal, Verdict};
+use refusal::Refusal;
 
 // A bundle's bytes.
 pub const SIZE: usize = 32;
@@ -33,28 +33,22 @@ pub struct Header {
     pub signers: u64,
 }
 
-#[derive(Clone, Copy)]
-pub enum Reading {
-    Accepted(Header),
-    Refused(Refusal),
-}
-
 // R10.1: the fields of a bundle, or why it is refused.
-pub fn read(config: Config, bundle: &[u8]) -> Reading
+pub fn read(config: Config, bundle: &[u8]) -> Result<Header, Refusal>
     ensures { reading_of result ≡ read_of config bundle.now }
 {
     if !config.good() {
-        return Reading::Refused(Refusal::BadConfig);
+        return Err(Refusal::BadConfig);
     }
     if bundle.len() != SIZE {
-        return Reading::Refused(Refusal::BundleLength);
+        return Err(Refusal::BundleLength);
     }
     let first = octets::word(&bundle[0..8]);
     if first % 0x1_0000 != 0 {
-        return Reading::Refused(Refusal::ReservedBytes);
+        return Err(Refusal::ReservedBytes);
     }
     if first / 0x1_0000_0000 != config.day as u64 {
-        return Reading::Refused(Refusal::OtherDay);
+        return Err(Refusal::OtherDay);
     }
     let header = Header {
         day: config.day,
@@ -62,10 +56,8 @@ pub fn read(config: Config, bundle: &[u8]) -> Reading
         seq: bundle[5],
         signers: octets::word(&bundle[8..16]),
     };
-    match check(config, header) {
-        Verdict::Done => Reading::Accepted(header),
-        Verdict::Refused(reason) => Reading::Refused(reason),
-    }
+    check(config, header)?;
+    Ok(header)
 }
 
 // R10.1: the payload as a part of the bundle that the caller gave; the empty part at its start where `read`
@@ -75,8 +67,8 @@ pub fn payload(config: Config, bundle: &[u8]) -> &[u8]
     ensures ref_ptr_value { result.ref_ptr ≡ advance (payload_place config bundle.now) bundle.entry.ref_ptr }
 {
     match read(config, bundle) {
-        Reading::Accepted(_) => &bundle[PAYLOAD_AT..SIZE],
-        Reading::Refused(_) => &bundle[0..0],
+        Ok(_) => &bundle[PAYLOAD_AT..SIZE],
+        Err(_) => &bundle[0..0],
     }
 }
 
@@ -99,12 +91,12 @@ pub fn write(
     signers: u64,
     payload: &[u8],
     out: &mut [u8],
-) -> Verdict
+) -> Result<(), Refusal>
     ensures result_value { verdict_of result ≡ plain (write_of config sender seq signers payload.now out.old) }
     ensures out_after { out.new ≡ write_out config sender seq signers payload.now out.old }
 {
     if !config.good() {
-        return Verdict::Refused(Refusal::BadConfig);
+        return Err(Refusal::BadConfig);
     }
     let header = Header {
         day: config.day,
@@ -112,18 +104,15 @@ pub fn write(
         seq,
         signers,
     };
-    let checked = check(config, header);
-    if let Verdict::Refused(reason) = checked {
-        return Verdict::Refused(reason);
-    }
+    check(config, header)?;
     if payload.len() != payload::SIZE {
-        return Verdict::Refused(Refusal::PayloadLength);
+        return Err(Refusal::PayloadLength);
     }
     if out.len() != SIZE {
-        return Verdict::Refused(Refusal::OutLength);
+        return Err(Refusal::OutLength);
     }
     encode(header, payload::load(payload), out);
-    Verdict::Done
+    Ok(())
 }
 
 // The 32 bytes of a bundle, with no field checked. A slice of another length stays as it is.
@@ -149,21 +138,21 @@ pub fn encode_like(bundle: &[u8], signers: u64, payload: Payload, out: &mut [u8]
 }
 
 // The refusals that reading and writing share.
-fn check(config: Config, header: Header) -> Verdict
+fn check(config: Config, header: Header) -> Result<(), Refusal>
     requires { good config ≡ true }
     ensures { verdict_of result ≡ unless (header_reasons config header) tt }
 {
     if config.n <= header.sender {
-        return Verdict::Refused(Refusal::SenderRange);
+        return Err(Refusal::SenderRange);
     }
     if config::SLOTS <= header.seq {
-        return Verdict::Refused(Refusal::SeqRange);
+        return Err(Refusal::SeqRange);
     }
     if config.mask() < header.signers {
-        return Verdict::Refused(Refusal::SignerRange);
+        return Err(Refusal::SignerRange);
     }
     if !signers::member(header.signers, header.sender) {
-        return Verdict::Refused(Refusal::SenderUnsigned);
+        return Err(Refusal::SenderUnsigned);
     }
-    Verdict::Done
+    Ok(())
 }

@@ -3,6 +3,7 @@ pub mod RecordBounds
 pub mod Refusals
 pub mod NoEffect
 pub mod Records
+pub mod Days
 pub mod FreeNumber
 pub mod LowestFree
 pub mod ReceiveFacts

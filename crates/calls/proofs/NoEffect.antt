@@ -4,7 +4,9 @@ use mathlib.Core.Path.{◌≡◌, refl, sym, ap, ◌∙◌}
 use mathlib.Core.Bool.{true≢false}
 use mathlib.Core.List.{List}
 use Prim.Native.Nat.{ℕ}
+use Rattle.std.specs.Prelude.{Result, Ok, Err}
 use Rattle.refusal.specs.Outcome.{Outcome, refused, done, checked, ◌and_then◌}
+use Rattle.refusal.specs.declared.Refusal.{Refusal}
 use Rattle.refusal.proofs.Reasons.{refused-not-done, refused-asked}
 use Rattle.config.specs.Config.{quorum}
 use Rattle.bundle.specs.declared.Header.{Header}
@@ -12,10 +14,7 @@ use Rattle.bundle.specs.Bundle.{read, payload_part, slot_of}
 use Rattle.bundle.proofs.Refusals.{never-seven-with-64}
 use Rattle.protocol.specs.Update.{Record, update_reasons, update_result, update}
 use Rattle.record.specs.Record.{decoded}
-use Rattle.calls.specs.declared.Announcement.{Announcement}
-use Rattle.calls.specs.declared.Announcement.TheVariants as announcement
 use Rattle.calls.specs.declared.Receipt.{Receipt}
-use Rattle.calls.specs.declared.Receipt.TheVariants as receipt
 use Rattle.calls.specs.Records.{record_at}
 use Rattle.calls.specs.Open.{open_records}
 use Rattle.calls.specs.Broadcast.{announcement_of, announcement_count}
@@ -46,16 +45,13 @@ refused-showing-gives-nothing config slot records number e = (rw e, rw e)
 pub refusal-counts-nothing : RefusalCountsNothing
 refusal-counts-nothing = (announced, received)
   where
-    announced : (answer : Announcement) (number : ℕ) → announcement_of answer ≡ refused number → announcement_count answer ≡ 0
-    announced (announcement.Announced seq) number e = absurd (refused-not-done number seq (sym e))
-    announced (announcement.Refused reason) number e = refl
+    announced : (answer : Result ℕ Refusal) (number : ℕ) → announcement_of answer ≡ refused number → announcement_count answer ≡ 0
+    announced (Ok seq) number e = absurd (refused-not-done number seq (sym e))
+    announced (Err reason) number e = refl
 
-    received : (answer : Receipt) (number : ℕ) → receipt_of answer ≡ refused number → receipt_count answer ≡ 0
-    received (receipt.Kept count) number e = absurd (refused-not-done number _ (sym e))
-    received (receipt.Signed count) number e = absurd (refused-not-done number _ (sym e))
-    received (receipt.Delivered count) number e = absurd (refused-not-done number _ (sym e))
-    received (receipt.Noted count) number e = absurd (refused-not-done number _ (sym e))
-    received (receipt.Refused reason) number e = refl
+    received : (answer : Result Receipt Refusal) (number : ℕ) → receipt_of answer ≡ refused number → receipt_count answer ≡ 0
+    received (Ok receipt) number e = absurd (refused-not-done number _ (sym e))
+    received (Err reason) number e = refl
 
 -- after reading no reason of receiving has the number 7
 pub receive-never-seven-with-64 : ReceiveNeverSevenWith64

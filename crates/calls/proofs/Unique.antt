@@ -5,48 +5,40 @@ use mathlib.Core.Path.{◌≡◌, refl, sym, ap, ◌∙◌}
 use Prim.Native.Nat.{ℕ}
 use lib.Count.{ones}
 use Rattle.signers.proofs.Members.{nobody, size-insert}
-use Rattle.refusal.specs.Outcome.{Outcome, refused, done}
-use Rattle.refusal.proofs.Unique.{reason_of, found}
-use Rattle.protocol.specs.Update.{Answer, announced, kept, signed, delivered, noted, announced_by}
+use Rattle.std.specs.Prelude.{Result}
+use Rattle.refusal.specs.Outcome.{Outcome}
+use Rattle.refusal.specs.declared.Refusal.{Refusal}
+use Rattle.refusal.proofs.Unique.{result_from, result-back}
+use Rattle.protocol.specs.Update.{Answer, announced_by}
+use Rattle.record.specs.Record.{answer_of}
+use Rattle.record.proofs.Unique.{answer_from, answer-back}
 use Rattle.calls.specs.Broadcast.{announcement_of, AnnouncedCounts}
 use Rattle.calls.specs.Receive.{receipt_of}
-use Rattle.calls.specs.declared.Announcement as Announcement
-use Rattle.calls.specs.declared.Receipt as Receipt
+use Rattle.calls.specs.declared.Receipt.{Receipt}
 
--- the answer of each number and values. A receipt is never announced; any will do there.
-unfoldable pub announcement : Outcome ℕ → Announcement.Announcement
-announcement (refused number) = Announcement.TheVariants.Refused (reason_of number)
-announcement (done seq) = Announcement.TheVariants.Announced seq
+-- the answer of each number and values
+abbrev pub announcement : Outcome ℕ → Result ℕ Refusal
+announcement outcome = result_from (λ seq. seq) outcome
 
-unfoldable pub receipt-of : Answer → ℕ → Receipt.Receipt
-receipt-of announced count = Receipt.TheVariants.Kept count
-receipt-of kept count = Receipt.TheVariants.Kept count
-receipt-of signed count = Receipt.TheVariants.Signed count
-receipt-of delivered count = Receipt.TheVariants.Delivered count
-receipt-of noted count = Receipt.TheVariants.Noted count
+abbrev pub receipt_from : Answer × ℕ → Receipt
+receipt_from told = record { answer = answer_from told.0; count = told.1 }
 
-unfoldable pub receipt : Outcome (Answer × ℕ) → Receipt.Receipt
-receipt (refused number) = Receipt.TheVariants.Refused (reason_of number)
-receipt (done told) = receipt-of told.0 told.1
+abbrev pub receipt : Outcome (Answer × ℕ) → Result Receipt Refusal
+receipt outcome = result_from receipt_from outcome
 
 -- each answer is that of its own number and values
-pub announcement-back : (a : Announcement.Announcement) → announcement (announcement_of a) ≡ a
-unfolding announcement
-announcement-back (Announcement.TheVariants.Announced seq) = refl
-announcement-back (Announcement.TheVariants.Refused reason) = ap Announcement.TheVariants.Refused (found reason)
+pub announcement-back : (a : Result ℕ Refusal) → announcement (announcement_of a) ≡ a
+announcement-back a = result-back (λ seq. seq) (λ seq. seq) (λ seq. refl) a
 
-pub receipt-back : (a : Receipt.Receipt) → receipt (receipt_of a) ≡ a
-unfolding receipt receipt-of
-receipt-back (Receipt.TheVariants.Kept count) = refl
-receipt-back (Receipt.TheVariants.Signed count) = refl
-receipt-back (Receipt.TheVariants.Delivered count) = refl
-receipt-back (Receipt.TheVariants.Noted count) = refl
-receipt-back (Receipt.TheVariants.Refused reason) = ap Receipt.TheVariants.Refused (found reason)
+pub receipt-back : (a : Result Receipt Refusal) → receipt (receipt_of a) ≡ a
+receipt-back a =
+    result-back (λ (r : Receipt). (answer_of r.answer, r.count)) receipt_from
+    (λ r. ap {B = Receipt} (λ w. record { answer = w; count = r.count }) (answer-back r.answer)) a
 
-pub announcement-one : (a b : Announcement.Announcement) → announcement_of a ≡ announcement_of b → a ≡ b
+pub announcement-one : (a b : Result ℕ Refusal) → announcement_of a ≡ announcement_of b → a ≡ b
 announcement-one a b e = sym (announcement-back a) ∙ ap announcement e ∙ announcement-back b
 
-pub receipt-one : (a b : Receipt.Receipt) → receipt_of a ≡ receipt_of b → a ≡ b
+pub receipt-one : (a b : Result Receipt Refusal) → receipt_of a ≡ receipt_of b → a ≡ b
 receipt-one a b e = sym (receipt-back a) ∙ ap receipt e ∙ receipt-back b
 
 -- ---- the count of an announcement

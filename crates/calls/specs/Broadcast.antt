@@ -1,11 +1,12 @@
 -- RULES section 7: broadcasting, called announcing in the formats. The payload goes into the first of our records that is empty, as held and signed by us
 -- alone, and its bundle to the outgoing bytes (R7.3). Nothing is delivered by it (R7.4).
 -- Assumes nothing.
-use Rattle.std.specs.Prelude.{◌≡◌, not, cond, List, [], ◌∷◌, ℕ, zero, suc, ◌<◌, eqb, length}
+use Rattle.std.specs.Prelude.{◌≡◌, not, cond, List, [], ◌∷◌, ℕ, zero, suc, ◌<◌, eqb, length, Result, Ok, Err}
 use Rattle.octets.specs.Octets.{blank}
 use Rattle.signers.specs.Signers as signers
 use Rattle.signers.specs.Signers.{insert}
-use Rattle.refusal.specs.Refusal.{number_of}
+use Rattle.refusal.specs.Refusal.{outcome_of}
+use Rattle.refusal.specs.declared.Refusal.{Refusal}
 use Rattle.refusal.specs.Outcome.{Outcome, refused, done, Reason, ◌if◌, after, checked, ◌and_then◌}
 use Rattle.payload.specs.Payload.{payload_size}
 use Rattle.config.specs.declared.Config.{Config}
@@ -15,8 +16,6 @@ use Rattle.bundle.specs.Bundle.{bundle_size, bundle_of, header_of_day}
 use Rattle.protocol.specs.Update.{signers_of, announced_by}
 use Rattle.record.specs.Record.{encoding, well_formed}
 use Rattle.calls.specs.Records.{own_slot, record_at, stored, wrong_size}
-use Rattle.calls.specs.declared.Announcement.{Announcement}
-use Rattle.calls.specs.declared.Announcement.TheVariants.{Announced, Refused}
 
 -- R7.2: the search looks at the record of number `seq`, the first of `left` that are left, and then at those after it. An empty record is all zero;
 -- 21 is for a malformed one that no empty one comes before, and 25 where all are well-formed and none is empty.
@@ -51,15 +50,14 @@ module _ (config : Config) (payload records out : List ℕ) where
   broadcast_out = after broadcast (λ seq. bundle_of (announced_header config seq) payload) out
 
 -- the number and values of each case (R17.3)
-abbrev pub announcement_of : Announcement → Outcome ℕ
-announcement_of (Announced seq) = done seq
-announcement_of (Refused reason) = refused (number_of reason)
+abbrev pub announcement_of : Result ℕ Refusal → Outcome ℕ
+announcement_of announcement = outcome_of (λ seq. seq) announcement
 
 -- the count that goes with the answer: 1 (R7.3), and 0 with a refusal (R5.1)
-abbrev pub announcement_count : Announcement → ℕ
-announcement_count (Announced seq) = 1
-announcement_count (Refused reason) = 0
+abbrev pub announcement_count : Result ℕ Refusal → ℕ
+announcement_count (Ok seq) = 1
+announcement_count (Err reason) = 0
 
 -- as in a receipt (R8.8), it is how many signers the record stored has
 abbrev pub AnnouncedCounts : Type 0
-AnnouncedCounts = (own seq : ℕ) (payload : List ℕ) → own < 64 → announcement_count (Announced seq) ≡ signers.size (signers_of (announced_by own payload))
+AnnouncedCounts = (own seq : ℕ) (payload : List ℕ) → own < 64 → announcement_count (Ok seq) ≡ signers.size (signers_of (announced_by own payload))

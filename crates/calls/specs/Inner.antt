@@ -1,10 +1,11 @@
 -- What the private functions of this crate promise each other: what a bundle comes to, and what becomes of that; given by its answer and the bytes that the
 -- record then has. No public contract rests on these; a reader may pass them over.
 -- Assumes nothing.
-use Rattle.std.specs.Prelude.{◌≡◌, cond, List, ℕ, ◌+◌, ◌≤◌, length}
+use Rattle.std.specs.Prelude.{◌≡◌, cond, List, ℕ, ◌+◌, ◌≤◌, length, Result, IfOk}
 use Rattle.signers.specs.Signers as signers
-use Rattle.refusal.specs.Refusal.{number_of}
-use Rattle.refusal.specs.Outcome.{Outcome, refused, done, after, ◌and_then◌}
+use Rattle.refusal.specs.Refusal.{outcome_of}
+use Rattle.refusal.specs.declared.Refusal.{Refusal}
+use Rattle.refusal.specs.Outcome.{Outcome, done, after, ◌and_then◌}
 use Rattle.config.specs.declared.Config.{Config}
 use Rattle.config.specs.declared.Slot.{Slot}
 use Rattle.config.specs.Config.{record_size, place}
@@ -12,9 +13,8 @@ use Rattle.bundle.specs.Bundle.{bundle_of, header_of, slot_in}
 use Rattle.bundle.specs.Inner.{encoded_like}
 use Rattle.protocol.specs.Update.{Answer, announced, kept, signed, delivered, noted, sends}
 use Rattle.note.specs.Note as note
-use Rattle.record.specs.Record.{signers_field, payload_field, note_field, received_of}
-use Rattle.calls.specs.declared.Decision.{Decision}
-use Rattle.calls.specs.declared.Decision.TheVariants.{Made, Refused}
+use Rattle.record.specs.Record.{signers_field, payload_field, note_field, bytes, answer_of}
+use Rattle.record.specs.declared.Received.{Received}
 use Rattle.calls.specs.Records.{replaced}
 
 -- the bundle of a record, given by its bytes
@@ -22,14 +22,13 @@ unfoldable pub sent : Slot → (bytes : List ℕ) → List ℕ
 sent slot bytes = bundle_of (header_of slot (signers_field bytes)) (payload_field bytes)
 
 -- what was decided: the number and values of each case (R17.3)
-abbrev pub decision_of : Decision → Outcome (Answer × List ℕ)
-decision_of (Made start received) = received_of received
-decision_of (Refused reason) = refused (number_of reason)
+abbrev pub decision_of : Result (ℕ × Received) Refusal → Outcome (Answer × List ℕ)
+decision_of decision = outcome_of (λ made. (answer_of made.1.answer, bytes made.1.record)) decision
 
 -- where a decision was made, it starts at the place of the bundle's slot, and a record fits there
-abbrev pub Placed : Config → (bundle records : List ℕ) → Decision → Type 0
-Placed config bundle records (Made start received) = (start ≡ place config (slot_in bundle)) × (start + record_size ≤ length records)
-Placed config bundle records (Refused reason) = Unit
+abbrev pub Placed : Config → (bundle records : List ℕ) → Result (ℕ × Received) Refusal → Type 0
+Placed config bundle records decision =
+    IfOk decision (λ made. (made.0 ≡ place config (slot_in bundle)) × (made.0 + record_size ≤ length records))
 
 -- the signers that are counted with an answer, by the bytes of the record
 abbrev pub counted_field : Answer → (bytes : List ℕ) → ℕ
@@ -48,8 +47,3 @@ settled_records start received records = after received (λ result. replaced sta
 
 unfoldable pub settled_out : (bundle : List ℕ) → Outcome (Answer × List ℕ) → (out : List ℕ) → List ℕ
 settled_out bundle received out = after received (λ result. cond (sends result.0) (encoded_like bundle (signers_field result.1) (payload_field result.1) out) out) out
-
--- the number of a refusal; 1 where there is none
-abbrev pub number_in : {A : Type 0} → Outcome A → ℕ
-number_in (refused number) = number
-number_in (done result) = 1

@@ -2,6 +2,7 @@
 pub mod Records
 pub mod WellFormed
 pub mod Open
+pub mod Day
 pub mod Broadcast
 pub mod FreeNumber
 pub mod Receive

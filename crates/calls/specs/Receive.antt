@@ -1,20 +1,20 @@
 -- RULES section 8: receiving a bundle, called taking in the formats. What it does to the slot's record (R8.2 to R8.6, R8.14 to R8.16) is the update of protocol's
 -- specs/Update.antt; here are the refusals before it, and what becomes of the two buffers.
 -- Assumes nothing.
-use Rattle.std.specs.Prelude.{not, cond, List, [], ◌∷◌, ℕ, eqb, length}
+use Rattle.std.specs.Prelude.{not, cond, List, [], ◌∷◌, ℕ, eqb, length, Result, Ok, Err}
 use Rattle.signers.specs.Signers as signers
-use Rattle.refusal.specs.Refusal.{number_of}
-use Rattle.refusal.specs.Outcome.{Outcome, refused, done, Reason, ◌if◌, after, checked, ◌and_then◌}
+use Rattle.refusal.specs.Refusal.{outcome_of}
+use Rattle.refusal.specs.declared.Refusal.{Refusal}
+use Rattle.refusal.specs.Outcome.{Outcome, Reason, ◌if◌, after, checked, ◌and_then◌}
 use Rattle.config.specs.declared.Config.{Config}
 use Rattle.config.specs.declared.Slot.{Slot}
 use Rattle.config.specs.Config.{quorum}
 use Rattle.bundle.specs.declared.Header.{Header}
 use Rattle.bundle.specs.Bundle.{bundle_size, bundle_of, read, payload_part, slot_of, header_of, slot_in}
-use Rattle.protocol.specs.Update.{Record, signers_of, payload_of, Answer, kept, signed, delivered, noted, sends, counted_signers, Update, update}
-use Rattle.record.specs.Record.{encoding, decoded, well_formed}
+use Rattle.protocol.specs.Update.{Record, signers_of, payload_of, Answer, sends, counted_signers, Update, update}
+use Rattle.record.specs.Record.{encoding, decoded, well_formed, answer_of}
 use Rattle.calls.specs.Records.{record_at, stored, wrong_size}
 use Rattle.calls.specs.declared.Receipt.{Receipt}
-use Rattle.calls.specs.declared.Receipt.TheVariants.{Kept, Signed, Delivered, Noted, Refused}
 
 -- the bundle of a slot's record
 unfoldable pub record_bundle : Slot → Record → List ℕ
@@ -47,17 +47,10 @@ unfoldable pub reported : Update → Answer × ℕ
 reported result = (result.answer, signers.size (counted_signers result.answer result.new_record))
 
 -- answer and count of each case, or the number of the refusal (R17.3)
-abbrev pub receipt_of : Receipt → Outcome (Answer × ℕ)
-receipt_of (Kept count) = done (kept, count)
-receipt_of (Signed count) = done (signed, count)
-receipt_of (Delivered count) = done (delivered, count)
-receipt_of (Noted count) = done (noted, count)
-receipt_of (Refused reason) = refused (number_of reason)
+abbrev pub receipt_of : Result Receipt Refusal → Outcome (Answer × ℕ)
+receipt_of receipt = outcome_of (λ r. (answer_of r.answer, r.count)) receipt
 
 -- R5.1: the count is 0 with a refusal
-abbrev pub receipt_count : Receipt → ℕ
-receipt_count (Kept count) = count
-receipt_count (Signed count) = count
-receipt_count (Delivered count) = count
-receipt_count (Noted count) = count
-receipt_count (Refused reason) = 0
+abbrev pub receipt_count : Result Receipt Refusal → ℕ
+receipt_count (Ok receipt) = receipt.count
+receipt_count (Err reason) = 0

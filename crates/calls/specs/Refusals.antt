@@ -1,12 +1,12 @@
 -- R5.1: a refusal changes nothing, whichever call it is of, and counts nothing. R5.6: when 7 never comes. bundle's specs/Refusals.antt has the same of
 -- reading and writing. They are proved in proofs/NoEffect.antt.
 -- Assumes nothing.
-use Rattle.std.specs.Prelude.{◌≡◌, List, [], ℕ}
+use Rattle.std.specs.Prelude.{◌≡◌, List, [], ℕ, Result}
 use Rattle.octets.specs.Octets.{Bytes}
 use Rattle.refusal.specs.Outcome.{refused}
+use Rattle.refusal.specs.declared.Refusal.{Refusal}
 use Rattle.config.specs.declared.Config.{Config}
 use Rattle.config.specs.declared.Slot.{Slot}
-use Rattle.calls.specs.declared.Announcement.{Announcement}
 use Rattle.calls.specs.declared.Receipt.{Receipt}
 use Rattle.calls.specs.Open.{opened, open_records}
 use Rattle.calls.specs.Broadcast.{broadcast, broadcast_records, broadcast_out, announcement_of, announcement_count}
@@ -36,8 +36,8 @@ RefusedShowingGivesNothing =
 -- The count that goes with a refusal is 0.
 abbrev pub RefusalCountsNothing : Type 0
 RefusalCountsNothing =
-    ((answer : Announcement) (number : ℕ) → announcement_of answer ≡ refused number → announcement_count answer ≡ 0)
-    × ((answer : Receipt) (number : ℕ) → receipt_of answer ≡ refused number → receipt_count answer ≡ 0)
+    ((answer : Result ℕ Refusal) (number : ℕ) → announcement_of answer ≡ refused number → announcement_count answer ≡ 0)
+    × ((answer : Result Receipt Refusal) (number : ℕ) → receipt_of answer ≡ refused number → receipt_count answer ≡ 0)
 
 -- With 64 nodes receiving does not refuse by 7 either; that a bundle's elements are bytes is what their type says.
 abbrev pub ReceiveNeverSevenWith64 : Type 0

@@ -19,22 +19,18 @@ pub const RECORD_SIZE: usize = 64;
 pub fn least_quorum(n: u8, t: u8) -> u32
     ensures { result ≡ least_quorum n t }
 {
-    (n as u32 + t as u32) / 2 + 1
+    (u32::from(n) + u32::from(t)) / 2 + 1
 }
 
 // R2.9: the most that a site may choose. Where n is not more than 3t + 2d it is less than the least.
 pub fn most_quorum(n: u8, t: u8, d: u8) -> u32
     ensures { result ≡ most_quorum n t d }
 {
-    let missing = t as u32 + d as u32;
-    if (n as u32) < missing {
-        return 0;
-    }
-    n as u32 - missing
+    u32::from(n).saturating_sub(u32::from(t) + u32::from(d))
 }
 
 // R2.6: what a broadcast has to itself. It is the sender's `seq`-th of the day, counted from 0.
-#[derive(Clone, Copy)]
+#[derive(Clone, Copy, Debug, PartialEq, Eq)]
 pub struct Slot {
     pub day: u32,
     pub sender: u8,
@@ -47,11 +43,11 @@ impl Slot {
     pub fn place(self) -> usize
         ensures { result ≡ slot_place self }
     {
-        RECORD_SIZE * ((SLOTS as usize) * (self.sender as usize) + (self.seq as usize))
+        RECORD_SIZE * (usize::from(SLOTS) * usize::from(self.sender) + usize::from(self.seq))
     }
 }
 
-#[derive(Clone, Copy)]
+#[derive(Clone, Copy, Debug, PartialEq, Eq)]
 pub struct Config {
     // how many nodes the system has, 1 to 64
     pub n: u8,
@@ -91,16 +87,13 @@ impl Config {
         if 64 < self.n {
             return false;
         }
-        if (self.n as u64) < (self.q as u64) + (self.t as u64) + (self.d as u64) {
+        if u64::from(self.n) < u64::from(self.q) + u64::from(self.t) + u64::from(self.d) {
             return false;
         }
-        if 2 * (self.q as u64) <= (self.n as u64) + (self.t as u64) {
+        if 2 * u64::from(self.q) <= u64::from(self.n) + u64::from(self.t) {
             return false;
         }
-        if self.n <= self.own {
-            return false;
-        }
-        true
+        self.own < self.n
     }
 
     // R2.3: how many signers deliver a payload.
@@ -162,6 +155,6 @@ impl Config {
     pub fn records_size(self) -> usize
         ensures { result ≡ records_size self }
     {
-        RECORD_SIZE * (SLOTS as usize) * (self.n as usize)
+        RECORD_SIZE * usize::from(SLOTS) * usize::from(self.n)
     }
 }

@@ -3,7 +3,7 @@
 use mathlib.Core.Path.{◌≡◌, refl, sym, ap, ◌∙◌, subst}
 use mathlib.Core.Logic.{inl, inr}
 use mathlib.Core.Bool.{Bool, true, false, true≢false, and-eq-true_iff}
-use Prim.Native.Nat.{ℕ}
+use Prim.Native.Nat.{ℕ, ◌<◌, ◌^◌}
 use native.Mathlib.Omega.{arith}
 use lib.Dec.{eqb}
 use borrow.Author.Tests.{eqb-true, eqb-false}
@@ -25,17 +25,18 @@ use Rattle.record.specs.Inner.{held_block, HasState}
 use Rattle.record.proofs.Words.{Fits, blank-halves, blank-signers, empty-words, held-words, delivered-words}
 use Rattle.record.proofs.WellFormed.{note_fine, well-formed-empty, malformed-note, well-formed-has-state}
 use Rattle.equivocators.specs.Entries.{noted_entry}
-use Rattle.equivocators.specs.Inner.{entry_of, WordsFit, Distinct}
+use Rattle.equivocators.specs.Inner.{entry_of, Distinct}
 use Rattle.equivocators.proofs.Entries.{Alike}
 
 -- the words of a record, as record's laws have it
-pub words-fit : (r : Record) → WordsFit r → Fits r
-words-fit r (head, signers, held, noted, zero, aside) =
+pub words-fit : (r : Record) → r.head < 2 ^ 64 → r.signers < 2 ^ 64 → r.payload.high < 2 ^ 64 → r.payload.low < 2 ^ 64
+    → r.note.signers < 2 ^ 64 → r.note.zero < 2 ^ 64 → r.note.payload.high < 2 ^ 64 → r.note.payload.low < 2 ^ 64 → Fits r
+words-fit r head signers high low noted zero noted_high noted_low =
     record {
       head-fits = head;
       signers-fits = signers;
-      payload-fits = record { high_fits = held.0; low_fits = held.1 };
-      note-fits = record { signers-fits = noted; zero-fits = zero; payload-fits = record { high_fits = aside.0; low_fits = aside.1 } };
+      payload-fits = record { high_fits = high; low_fits = low };
+      note-fits = record { signers-fits = noted; zero-fits = zero; payload-fits = record { high_fits = noted_high; low_fits = noted_low } };
     }
 
 -- a note's entry

@@ -1,21 +1,84 @@
 -- The refusals of the call, one after the other, and what it gives where none applies.
 -- Assumes nothing.
-use mathlib.Core.Path.{◌≡◌, refl, sym, ap, ◌∙◌, fun_ext}
+use mathlib.Core.Path.{◌≡◌, refl, sym, ap, ap₂, ◌∙◌, fun_ext}
 use mathlib.Core.Bool.{Bool, true, false, ◌&&◌, true≢false}
 use mathlib.Core.List.{List}
 use Prim.Native.Nat.{ℕ}
 use lib.ListN.{length}
-use borrow.Author.Tests.{eq-eqb, ne_eqb}
+use borrow.Author.Tests.{eq-eqb, ne_eqb, eqb-true, not-false}
 use Rattle.signers.specs.Words.{set_word}
 use Rattle.refusal.specs.Outcome.{refused, done}
-use Rattle.refusal.proofs.Reasons.{passed, failed, pass, stop, clear-done}
+use Rattle.refusal.proofs.Reasons.{passed, failed, pass, stop, clear-done, done-clear, refused-first}
 use Rattle.config.specs.declared.Config.{Config}
 use Rattle.config.specs.Config.{good, slots, with_own, records_size}
 use Rattle.protocol.specs.Trace.{each}
+use Rattle.calls.specs.Open.{open_reasons}
+use Rattle.calls.specs.Day.{day_of}
+use Rattle.calls.proofs.Days as days
 use Rattle.calls.specs.WellFormed.{slot_well_formed, sender_well_formed, all_well_formed}
 use Rattle.equivocators.specs.Equivocators.{equivocates, equivocators_reasons, equivocators}
-use Rattle.equivocators.specs.Inner.{all_formed}
+use Rattle.equivocators.specs.Inner.{first_reasons, first_of, all_formed}
 use Rattle.equivocators.proofs.Below.{each_both}
+
+-- ---- the first buffer
+
+module _ (config : Config) (other : ℕ) (first : List ℕ) where
+  -- a configuration that is not good with the other number is refused as one that is not good
+  pub first-bad : good (with_own config other) ≡ false → first_of config other first ≡ refused 1
+  first-bad h = go (good config) refl
+    where
+      go : (b : Bool) → good config ≡ b → first_of config other first ≡ refused 1
+      go true g = pass 1 _ _ (passed g) ∙ stop 1 _ _ (failed h)
+      go false g = stop 1 _ _ (failed g)
+
+  -- and with one that is, the day itself is the rest of the test
+  pub first-day : good (with_own config other) ≡ true → day_of config first ≡ first_of config other first
+  unfolding day_of open_reasons
+  first-day h = go (good config) refl
+    where
+      go : (b : Bool) → good config ≡ b → day_of config first ≡ first_of config other first
+      go true g = pass 1 _ _ (passed g) ∙ sym (pass 1 _ _ (passed g) ∙ pass 1 _ _ (passed h))
+      go false g = stop 1 _ _ (failed g) ∙ sym (stop 1 _ _ (failed g))
+
+  -- what is known of the day that is made
+  pub record Made (day : Config × List ℕ) : Type 0 where
+    pub config_is : day.0 ≡ config
+    pub records_is : day.1 ≡ first
+    pub here_good : good config ≡ true
+    pub there_good : good (with_own config other) ≡ true
+    pub records_whole : length first ≡ records_size config
+
+  pub first-made : (day : Config × List ℕ) → done day ≡ first_of config other first → Made day
+  first-made day e =
+      let (clear, same) = done-clear (first_reasons config other first) (config, first) day (sym e) in
+      record {
+        config_is = sym (ap (λ (d : Config × List ℕ). d.0) same);
+        records_is = sym (ap (λ (d : Config × List ℕ). d.1) same);
+        here_good = not-false _ clear.0;
+        there_good = not-false _ clear.1.0;
+        records_whole = eqb-true _ _ (not-false _ clear.1.1.0);
+      }
+
+  -- whether its records are well-formed
+  pub first-formed : (day : Config × List ℕ) → Made day → all_well_formed config first ≡ all_well_formed day.0 day.1
+  first-formed day m = sym (ap₂ all_well_formed m.config_is m.records_is)
+
+-- ---- both
+
+-- two days that are made of what was given
+module _ (config : Config) (other : ℕ) (first second : List ℕ) (here there : Config × List ℕ)
+    (m : Made config other first here) (n : days.Made (with_own config other) second there) where
+  own_is : there.0.own ≡ other
+  unfolding with_own
+  own_is = ap (λ (k : Config). k.own) n.config_is
+
+  -- are of one system,
+  pub same-system : there.0 ≡ with_own here.0 there.0.own
+  same-system = n.config_is ∙ sym (ap₂ with_own m.config_is own_is)
+
+  -- and what is said of them is said of what was given
+  pub told-of : {A : Type 0} (f : Config → ℕ → List ℕ → List ℕ → A) → f here.0 there.0.own here.1 there.1 ≡ f config other first second
+  told-of f = rw (m.config_is, own_is, m.records_is, n.records_is)
 
 module _ (config : Config) (other : ℕ) (first second : List ℕ) where
   abbrev there : Config
@@ -28,20 +91,13 @@ module _ (config : Config) (other : ℕ) (first second : List ℕ) where
       ap (λ (f : ℕ → Bool). each f config.n) (fun_ext (λ sender. each_both (slot_well_formed config first sender) (slot_well_formed there second sender) slots))
       ∙ each_both (sender_well_formed config first) (sender_well_formed there second) config.n
 
-  pub refused-config : good config ≡ false → equivocators config other first second ≡ refused 1
+  -- what refuses the first day refuses the call
+  pub refused-early : (number : ℕ) → refused number ≡ first_of config other first → equivocators config other first second ≡ refused number
   unfolding equivocators equivocators_reasons
-  refused-config g = stop 1 _ _ (failed g)
+  refused-early number e = refused-first _ (config, first) _ (first_reasons config other first) number (sym e)
 
   module _ (g : good config ≡ true) where
-    pub refused-other : good there ≡ false → equivocators config other first second ≡ refused 1
-    unfolding equivocators equivocators_reasons
-    refused-other h = pass 1 _ _ (passed g) ∙ stop 1 _ _ (failed h)
-
     module _ (h : good there ≡ true) where
-      pub refused-size : (length first ≡ records_size config → ⊥) → equivocators config other first second ≡ refused 20
-      unfolding equivocators equivocators_reasons
-      refused-size r = pass 1 _ _ (passed g) ∙ (pass 1 _ _ (passed h) ∙ stop 20 _ _ (failed (ne_eqb _ _ r)))
-
       module _ (r : length first ≡ records_size config) where
         pub refused-formed : all_well_formed config first ≡ false → equivocators config other first second ≡ refused 21
         unfolding equivocators equivocators_reasons

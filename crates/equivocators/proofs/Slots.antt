@@ -1,51 +1,20 @@
--- The two records of a slot: where they lie in the buffers, and who is named by them.
+-- The two records of a slot, and who is named by them.
 -- Assumes nothing.
-use mathlib.Core.Path.{◌≡◌, sym, ap, ap₂, ◌∙◌}
+use mathlib.Core.Path.{◌≡◌, sym, ap₂, ◌∙◌}
 use mathlib.Core.Bool.{true}
 use mathlib.Core.List.{List, ◌++◌}
-use Prim.Native.Nat.{ℕ, ◌+◌, ◌≤◌, ◌<◌}
-use native.Mathlib.Omega.{arith}
-use lib.ListN.{length}
-use Rattle.octets.specs.Octets.{part}
+use Prim.Native.Nat.{ℕ}
 use Rattle.config.specs.declared.Config.{Config}
-use Rattle.config.specs.declared.Slot.{Slot}
-use Rattle.config.specs.Config.{good, slots, slot_of_day, with_own, in_range, slot_place, place, record_size, records_size}
-use Rattle.config.proofs.Laws.{in-range, place-slot}
+use Rattle.config.specs.Config.{slot_of_day, with_own}
 use Rattle.record.specs.declared.Record.{Record}
 use Rattle.record.specs.Record.{decoded, well_formed, bytes}
 use Rattle.record.proofs.Words.{Fits}
 use Rattle.calls.specs.Records.{record_at}
-use Rattle.calls.specs.WellFormed.{slot_well_formed}
-use Rattle.calls.proofs.Records.{place-fits}
-use Rattle.calls.proofs.RecordBounds.{record-at}
 use Rattle.equivocators.specs.Entries.{entries, signed_two}
 use Rattle.equivocators.specs.Equivocators.{slot_entries}
 use Rattle.equivocators.specs.Inner.{among_records, slot_names}
 use Rattle.equivocators.proofs.Entries.{four-alike}
 use Rattle.equivocators.proofs.Halves.{halves-alike}
-
--- one buffer
-module _ (config : Config) (records : List ℕ) (g : good config ≡ true) (sized : length records ≡ records_size config) (sender seq : ℕ) (s : sender < config.n) (k : seq < slots) where
-  abbrev slot : Slot
-  slot = slot_of_day config sender seq
-
-  range : in_range config slot ≡ true
-  unfolding slot_of_day
-  range = in-range config slot s k
-
-  placed : slot_place slot ≡ place config slot
-  placed = sym (place-slot config slot g range)
-
-  pub room : slot_place slot + record_size ≤ length records
-  room = let fits = place-fits config g records sized slot range in let at = placed in omega arith
-
-  module _ (r : Record) (loaded : bytes r ≡ part (slot_place slot) record_size records) where
-    pub record-there : bytes r ≡ record_at config slot records
-    record-there = loaded ∙ record-at config slot records (slot_place slot) placed
-
-    pub formed-there : well_formed config sender (bytes r) ≡ slot_well_formed config records sender seq
-    unfolding slot_well_formed
-    formed-there = ap (well_formed config sender) record-there
 
 -- both
 module _ (config : Config) (other : ℕ) (first second : List ℕ) (sender seq : ℕ) (here there : Record) (f : Fits here) (h : Fits there)

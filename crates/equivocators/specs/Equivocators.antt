@@ -1,18 +1,17 @@
 -- RULES section 19: which nodes stand beside two payloads of one slot, by the records of two nodes.
 -- Assumes nothing.
-use Rattle.std.specs.Prelude.{Bool, false, not, ◌||◌, List, [], ◌∷◌, ◌++◌, ℕ, zero, suc, eqb}
+use Rattle.std.specs.Prelude.{Bool, false, not, ◌||◌, List, [], ◌∷◌, ◌++◌, ℕ, zero, suc, eqb, Result}
 use Rattle.signers.specs.Sets.{NodeSet}
 use Rattle.signers.specs.Words.{set_word}
-use Rattle.refusal.specs.Refusal.{number_of}
-use Rattle.refusal.specs.Outcome.{Outcome, refused, done, Reason, ◌if◌, unless}
+use Rattle.refusal.specs.declared.Refusal.{Refusal}
+use Rattle.refusal.specs.Refusal.{outcome_of}
+use Rattle.refusal.specs.Outcome.{Outcome, Reason, ◌if◌, unless}
 use Rattle.config.specs.declared.Config.{Config}
 use Rattle.config.specs.Config.{good, slots, slot_of_day, with_own}
 use Rattle.calls.specs.Records.{wrong_size}
 use Rattle.calls.specs.WellFormed.{all_well_formed}
 use Rattle.calls.specs.Algorithm.{record_of}
 use Rattle.equivocators.specs.Entries.{Entry, entries, signed_two}
-use Rattle.equivocators.specs.declared.Naming.{Naming}
-use Rattle.equivocators.specs.declared.Naming.TheVariants.{Named, Refused}
 
 -- the test passes for some number below n
 unfoldable pub some_below : (test : (k : ℕ) → Bool) (n : ℕ) → Bool
@@ -47,6 +46,5 @@ module _ (config : Config) (other : ℕ) (first second : List ℕ) where
   equivocators = unless equivocators_reasons (set_word equivocates 64)
 
 -- the word of each case, or the number of the refusal (R17.3)
-abbrev pub naming_of : Naming → Outcome ℕ
-naming_of (Named word) = done word
-naming_of (Refused reason) = refused (number_of reason)
+abbrev pub naming_of : Result ℕ Refusal → Outcome ℕ
+naming_of = outcome_of (λ word. word)

@@ -1,19 +1,22 @@
 -- What the private functions of this crate promise each other. No public contract rests on these; a reader may pass them over.
 -- Assumes nothing.
-use Rattle.std.specs.Prelude.{◌≡◌, ◌⊎◌, Bool, true, false, ◌&&◌, List, [], ◌∷◌, ◌++◌, ℕ, ◌<◌, ◌^◌}
+use Rattle.std.specs.Prelude.{◌≡◌, ◌⊎◌, Bool, true, false, ◌&&◌, List, [], ◌∷◌, ◌++◌, ℕ, not, Result, Ok, Err}
 use Rattle.octets.specs.Octets.{same}
 use Rattle.payload.specs.declared.Payload.{Payload}
 use Rattle.payload.specs.Payload as payload
 use Rattle.signers.specs.Sets.{NodeSet}
 use Rattle.signers.specs.Signers.{member}
+use Rattle.refusal.specs.declared.Refusal.{Refusal}
+use Rattle.refusal.specs.Refusal.{number_of}
+use Rattle.refusal.specs.Outcome.{Outcome, Reason, ◌if◌, unless}
 use Rattle.config.specs.declared.Config.{Config}
-use Rattle.config.specs.Config.{slots, with_own}
+use Rattle.config.specs.Config.{good, slots, with_own}
 use Rattle.protocol.specs.Trace.{each}
 use Rattle.record.specs.declared.Record.{Record}
+use Rattle.calls.specs.Records.{wrong_size}
 use Rattle.calls.specs.WellFormed.{slot_well_formed}
 use Rattle.equivocators.specs.Entries.{Entry, signed_both, signed_two}
 use Rattle.equivocators.specs.Equivocators.{some_below, slot_entries, equivocates}
-use Rattle.equivocators.specs.declared.Comparison.{Comparison}
 
 -- the word has the members of the set
 abbrev pub Names : NodeSet → (word : ℕ) → Type 0
@@ -27,15 +30,6 @@ entry_of signers p = record { signers = signers; payload = payload.bytes p }
 abbrev pub signed_both_by : (signers : ℕ) → Payload → (others : ℕ) → Payload → NodeSet
 signed_both_by signers p others q = signed_both (entry_of signers p) (entry_of others q)
 
--- each word has 64 bits, as its type says
-abbrev pub PayloadFits : Payload → Type 0
-PayloadFits p = (p.high < 2 ^ 64) × (p.low < 2 ^ 64)
-
-abbrev pub WordsFit : Record → Type 0
-WordsFit r =
-    (r.head < 2 ^ 64) × (r.signers < 2 ^ 64) × PayloadFits r.payload
-    × (r.note.signers < 2 ^ 64) × (r.note.zero < 2 ^ 64) × PayloadFits r.note.payload
-
 -- both halves, also where nothing is held or noted
 abbrev pub halves : Record → List Entry
 halves r = entry_of r.signers r.payload ∷ entry_of r.note.signers r.note.payload ∷ []
@@ -47,12 +41,22 @@ among_records here there = signed_two (halves here ++ halves there)
 abbrev pub Distinct : Record → Type 0
 Distinct r = (r.note.signers ≡ 0) ⊎ (same (payload.bytes r.payload) (payload.bytes r.note.payload) ≡ false)
 
+-- ---- the first buffer
+
+-- what is tested before its records are
+abbrev pub first_reasons : Config → (other : ℕ) (first : List ℕ) → List Reason
+first_reasons config other first = (1 if not (good config)) ∷ (1 if not (good (with_own config other))) ∷ (20 if wrong_size config first) ∷ []
+
+-- it gives the configuration, and the bytes of the records
+abbrev pub first_of : Config → (other : ℕ) (first : List ℕ) → Outcome (Config × List ℕ)
+first_of config other first = unless (first_reasons config other first) (config, first)
+
 -- ---- comparisons
 
--- what a comparison finds
-pub record Compared (formed : Bool) (names : NodeSet) (r : Comparison) : Type 0 where
-  pub formedness : r.formed ≡ formed
-  pub naming : r.formed ≡ true → Names names r.named
+-- what a comparison finds: who is named, where the records are well-formed, and else 21
+abbrev pub Compared : (formed : Bool) (names : NodeSet) → Result ℕ Refusal → Type 0
+Compared formed names (Ok named) = (formed ≡ true) × Names names named
+Compared formed names (Err reason) = (formed ≡ false) × (number_of reason ≡ 21)
 
 -- both records of a slot are well-formed, those of a sender, and all; and who is named by them
 module _ (config : Config) (other : ℕ) (first second : List ℕ) where

@@ -3,3 +3,4 @@ pub mod Entries
 pub mod Equivocators
 pub mod Named
 pub mod Inner
+pub mod Found

@@ -1,11 +1,11 @@
 -- The first line of a piece of the input: where it ends, how it is found there, and what comes of it. From the definitions of specs/Inner.antt and
 -- specs/Bytes.antt, for any bytes.
 -- Assumes nothing.
+use Rattle.std.proofs.Common.{Some}
 use mathlib.Core.Path.{◌≡◌, sym, ap, ap₂, ◌∙◌}
-use mathlib.Core.Logic.{inl, inr}
 use mathlib.Core.List.{List, [], ◌∷◌, ◌++◌}
-use Prim.Native.Nat.{ℕ, suc, ◌+◌, ◌-◌, ◌≤◌, ◌<◌, min}
-use native.Mathlib.Nat.{sub-zero, add-zero, min-eq_left}
+use Prim.Native.Nat.{ℕ, suc, ◌+◌, ◌≤◌, ◌<◌, min}
+use native.Mathlib.Nat.{add-zero, min-eq_left}
 use native.Mathlib.Numerals.{add-one}
 use native.Mathlib.Omega.{arith}
 use lib.Arith.{lt_of_le-ne}
@@ -17,12 +17,13 @@ use Rattle.text.proofs.WriteLaws.{written-empty}
 use Rattle.step.specs.Step.{row_space}
 use Rattle.nodes.proofs.Printing.{Prints, printed-fits}
 use Rattle.stages.specs.declared.State.{State}
-use Rattle.stages.specs.Stages.{line_space, after_step_row, after_line, line_records, line_text}
+use Rattle.stages.specs.Stages.{line_space, after_step_row, after_line, line_records, line_text, read_text, read_records}
 use Rattle.stages.proofs.LineEnds as stages
 use Rattle.stages.proofs.LongLines.{front-enough}
+use Rattle.stages.proofs.ReadRows.{in_place}
 use Rattle.lines.specs.declared.Run.{Run}
 use Rattle.lines.specs.Bytes.{Progress, after_line_end, line_end_text, bytes_text, held_bytes, progress, through}
-use Rattle.lines.specs.Inner.{FeedAt, InPlace, UsesLine}
+use Rattle.lines.specs.Inner.{FeedAt, UsesLine}
 use Rattle.lines.proofs.Pieces.{with_line, bytes-held, line-ended, line-ended-text}
 
 -- ---- a text written over a buffer from index `at` on, which ends at `len`
@@ -46,9 +47,8 @@ module _ (at : ℕ) (out : List ℕ) where
 -- ---- where the first line ends
 
 -- bytes without a line feed, and one after them, are the line
-feed-found : (i : ℕ) (chunk : List ℕ) → i < length chunk → FeedAt i chunk → before line_feed (take i chunk) ≡ length (take i chunk) → before line_feed chunk ≡ i
-feed-found i chunk h (inl end) none = absurd (omega arith)
-feed-found i chunk h (inr (within, feed)) none =
+feed-found : (i : ℕ) (chunk : List ℕ) → FeedAt (Some i) chunk → before line_feed (take i chunk) ≡ length (take i chunk) → before line_feed chunk ≡ i
+feed-found i chunk (h, feed) none =
     ap (before line_feed) (split_at chunk i 0 h ∙ ap (λ (b : ℕ). take i chunk ++ (b ∷ drop (suc i) chunk)) feed)
     ∙ before-append line_feed (take i chunk) (drop (suc i) chunk) none
     ∙ length-take-le i chunk (omega arith)
@@ -83,10 +83,6 @@ module _ (chunk : List ℕ) where
 pub held-few : (run : Run) → held_bytes run ≤ line_space
 unfolding held_bytes
 held-few run = omega arith
-
--- a part from the start on
-pub front-part : (k : ℕ) (xs : List ℕ) → take (k - 0) (drop 0 xs) ≡ take k xs
-front-part k xs = ap (λ (n : ℕ). take n xs) (sub-zero k)
 
 module _ (run : Run) (buffer records chunk : List ℕ) (at : ℕ) (out : List ℕ) where
   -- what has come of the line before, and what is known of the input then
@@ -150,8 +146,8 @@ module _ (run : Run) (buffer records chunk : List ℕ) (at : ℕ) (out : List �
   -- ---- as the functions have it
 
   -- what is held once the line's bytes are added, with its end known by an equation
-  pub line-held : (end : ℕ) → end ≡ before line_feed chunk → take line_space (take (held_bytes run) buffer ++ take (end - 0) (drop 0 chunk)) ≡ line_held
-  line-held end e = rw (front-part end chunk, e)
+  pub line-held : (end : ℕ) → end ≡ before line_feed chunk → take line_space (take (held_bytes run) buffer ++ take end chunk) ≡ line_held
+  line-held end e = rw e
 
   -- and what comes of a piece then
   module _ (end : ℕ) (e : end ≡ before line_feed chunk) (after : List ℕ) where
@@ -169,17 +165,13 @@ module _ (run : Run) (buffer records chunk : List ℕ) (at : ℕ) (out : List �
         (ap (λ (k : ℕ). k + 1) e ∙ u, rest)
 
   -- a row that was played where it stands
-  pub uses-usual : (end : ℕ) → FeedAt end chunk → run.held ≡ 0 → (len : ℕ) (left over : List ℕ) → InPlace run.state chunk end records at out len left over → at < len
+  pub uses-usual : (end : ℕ) → FeedAt (Some end) chunk → run.held ≡ 0 → at + row_space ≤ length out → (len : ℕ) (left over : List ℕ)
+      → Prints at out (read_text run.state (take end chunk) records) len over → left ≡ read_records run.state (take end chunk) records → at < len
       → (next : State) → next ≡ after_step_row run.state → (after : List ℕ) → UsesLine run buffer records chunk at out (record { state = next; held = 0 }) after left (end + 1) len over
-  uses-usual end feed none len left over played more next n after =
-      let index : before line_feed chunk ≡ end = feed-found end chunk (played.within more) feed (played.feedless more) in
+  uses-usual end feed none room len left over t r more next n after =
+      let row = in_place run.state (take end chunk) records at out t more in
+      let index : before line_feed chunk ≡ end = feed-found end chunk feed row.feedless in
       let line : take end chunk ≡ first_line chunk = ap (λ (k : ℕ). take k chunk) (sym index) in
-      let ends : Ends (take end chunk) next left len over = (n ∙ sym (played.known more), (played.recorded more, (played.ends more, played.printed more))) in
-      let (u, rest) = uses-row none (rw index (played.within more)) next after left len over (rw line at ends) in
+      let ends : Ends (take end chunk) next left len over = (n ∙ sym row.known, (r ∙ sym row.left, writes-printed at out room (line_text run.state (take end chunk) records) row.printed)) in
+      let (u, rest) = uses-row none (rw index feed.0) next after left len over (rw line at ends) in
       (ap (λ (k : ℕ). k + 1) (sym index) ∙ u, rest)
-
--- and what comes of it where records and text are known by equations
-pub uses-same : (run : Run) (buffer records chunk : List ℕ) (at : ℕ) (out found-records found-out : List ℕ) → found-records ≡ records → found-out ≡ out
-    → (next : Run) (after left : List ℕ) (used len : ℕ) (over : List ℕ) → UsesLine run buffer found-records chunk at found-out next after left used len over
-    → UsesLine run buffer records chunk at out next after left used len over
-uses-same run buffer records chunk at out found-records found-out r o next after left used len over uses = rw (r, o) at uses

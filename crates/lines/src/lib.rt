@@ -14,14 +14,15 @@ use stages::{LINE_SPACE, State};
 use step::ROW_SPACE;
 
 // What is known of the input so far, beside the records and the bytes that are held: what the lines left that
-// have ended, and how many bytes are held of the next.
+// have ended, and how many bytes are held of the next. The bytes are in a buffer that the caller lends, since nothing
+// here takes memory from a heap.
 #[derive(Clone, Copy)]
 pub struct Run {
     pub state: State,
     pub held: usize,
 }
 
-// A run after a line or what there is of it, how many bytes that used, and where the printed text ends.
+// A run after some bytes of the input, how many of them were used, and where the text ends that is printed for them.
 #[derive(Clone, Copy)]
 pub struct Next {
     pub run: Run,
@@ -30,13 +31,11 @@ pub struct Next {
 }
 
 // How many bytes of the line are held: no more than there is room for.
+#[tactic(auto, unfolding(crate::specs::Bytes::held_bytes))]
 pub fn held_bytes(run: Run) -> usize
     ensures { result ≡ held_bytes run }
 {
-    if LINE_SPACE < run.held {
-        return LINE_SPACE;
-    }
-    run.held
+    run.held.min(LINE_SPACE)
 }
 
 // Plays the first line of the chunk with its line feed, or holds what there is of it, and prints what is
@@ -58,14 +57,7 @@ pub fn next_line(
     ensures len_value { result.len ≡ at + length (bytes_text (progress run line.old records.old) (take result.used chunk.now)) }
     ensures out_after { out.new ≡ written at (bytes_text (progress run line.old records.old) (take result.used chunk.now)) out.old }
 {
-    if out.len() < ROW_SPACE {
-        return Next {
-            run,
-            used: 0,
-            len: at,
-        };
-    }
-    if out.len() - ROW_SPACE < at {
+    if !text::has_room(ROW_SPACE, at, out) {
         return Next {
             run,
             used: 0,
@@ -75,107 +67,94 @@ pub fn next_line(
     first_line(run, chunk, line, records, at, out)
 }
 
-// The same where `out` has ROW_SPACE bytes there. A row that is read has no line feed in it. So where a line
-// feed stands after a usual row, that row is the line: it is played where it stands, and its bytes are not
-// looked through for the end.
+// The same where `out` has ROW_SPACE bytes there.
 fn first_line(
     run: Run,
     chunk: &[u8],
-    line: &mut [u8],
+    line: &mut [u8; LINE_SPACE],
     records: &mut [u8; RECORDS_SPACE],
     at: usize,
     out: &mut [u8],
 ) -> Next
-    requires line_len { length line.old ≡ line_space }
-    requires row_space_in_bounds { at + row_space ≤ length out.old }
+    requires { at + row_space ≤ length out.old }
     ensures { UsesLine run line.old records.old chunk.now at out.old result.run line.new records.new result.used result.len out.new }
 {
-    if run.held == 0 {
-        let state = run.state;
-        let guess = usual_end(chunk);
-        let len = play_in_place(state, chunk, guess, records, at, out);
-        if at < len {
-            let run = Run {
-                state: stages::after_step_row(state),
-                held: 0,
-            };
-            return Next {
-                run,
-                used: guess + 1,
-                len,
-            };
-        }
+    if let Some(next) = play_in_place(run, chunk, records, at, out) {
+        return next;
     }
     put_together(run, chunk, line, records, at, out)
 }
 
-// An index at which a line feed stands, where a usual row would have one, or the chunk's length.
-fn usual_end(chunk: &[u8]) -> usize
-    ensures { FeedAt result chunk.now }
-{
-    if chunk.len() < 59 {
-        return chunk.len();
-    }
-    if chunk[57] == b'\n' {
-        return 57;
-    }
-    if chunk[58] == b'\n' {
-        return 58;
-    }
-    if chunk[42] == b'\n' {
-        return 42;
-    }
-    chunk.len()
-}
-
-// Plays the bytes of the chunk before `end` as a step row, if they are one that is read and do not end the
-// chunk. The answer is where its text ends, or `at` if nothing was done.
+// Plays the first line where it stands, if nothing is held of it, it ends where a usual row does, and it is a step
+// row that is read. Else nothing is done. A row that is read has no line feed in it. So where a line feed stands
+// after such a row, that row is the line, and its bytes are not looked through for the end.
 fn play_in_place(
-    state: State,
+    run: Run,
     chunk: &[u8],
-    end: usize,
     records: &mut [u8; RECORDS_SPACE],
     at: usize,
     out: &mut [u8],
-) -> usize
+) -> Option<Next>
     requires { at + row_space ≤ length out.old }
-    ensures { InPlace state chunk.now end records.old at out.old result records.new out.new }
+    ensures { InPlace run chunk.now records.old at out.old result records.new out.new }
 {
-    if end < chunk.len() {
-        return stages::play_step_row(state, &chunk[0..end], records, at, out);
+    if run.held != 0 {
+        return None;
     }
-    at
+    let feed = usual_end(chunk)?;
+    let len = stages::play_step_row(run.state, &chunk[..feed], records, at, out);
+    // For a row that is read some text is printed.
+    if len <= at {
+        return None;
+    }
+    let run = Run {
+        state: stages::after_step_row(run.state),
+        held: 0,
+    };
+    Some(Next {
+        run,
+        used: feed + 1,
+        len,
+    })
+}
+
+// An index at which a line feed stands, of those at which it stands after a usual row. The most usual comes first.
+fn usual_end(chunk: &[u8]) -> Option<usize>
+    ensures { FeedAt result chunk.now }
+{
+    [57, 58, 42]
+        .iter()
+        .copied()
+        .find(|index| chunk.get(*index) == Some(&b'\n'))
 }
 
 // Puts what there is of the line together in `line`. If it has ended, it does what it asks for.
 fn put_together(
     run: Run,
     chunk: &[u8],
-    line: &mut [u8],
+    line: &mut [u8; LINE_SPACE],
     records: &mut [u8; RECORDS_SPACE],
     at: usize,
     out: &mut [u8],
 ) -> Next
-    requires line_len { length line.old ≡ line_space }
-    requires row_space_in_bounds { at + row_space ≤ length out.old }
+    requires { at + row_space ≤ length out.old }
     ensures { UsesLine run line.old records.old chunk.now at out.old result.run line.new records.new result.used result.len out.new }
 {
-    let state = run.state;
     let end = text::find(b'\n', chunk);
-    let held = hold(run, &chunk[0..end], line);
+    let held = hold(run, &chunk[..end], line);
     if end == chunk.len() {
-        let run = Run { state, held };
         return Next {
-            run,
+            run: Run { held, ..run },
             used: end,
             len: at,
         };
     }
-    let ended = stages::end_line(state, &line[0..held], records, at, out);
-    let state = ended.state;
-    let run = Run { state, held: 0 };
+    let ended = stages::end_line(run.state, &line[..held], records, at, out);
     Next {
-        run,
+        run: Run {
+            state: ended.state,
+            held: 0,
+        },
         used: end + 1,
         len: ended.len,
     }
@@ -183,20 +162,13 @@ fn put_together(
 
 // Adds bytes to those that are held, as far as there is room, and answers how many are held then. A line
 // that has no room is too long for any row.
-fn hold(run: Run, bytes: &[u8], line: &mut [u8]) -> usize
-    requires { length line.old ≡ line_space }
+fn hold(run: Run, bytes: &[u8], line: &mut [u8; LINE_SPACE]) -> usize
     ensures upper_bound { result ≤ line_space }
     ensures line_after { take result line.new ≡ take line_space (take (held_bytes run) line.old ++ bytes.now) }
 {
-    let mut end = held_bytes(run);
-    let mut i = 0;
-    while i < bytes.len() {
-        if end == LINE_SPACE {
-            return end;
-        }
-        line[end] = bytes[i];
-        end += 1;
-        i += 1;
-    }
-    end
+    let held = held_bytes(run);
+    let room = LINE_SPACE - held;
+    let more = bytes.len().min(room);
+    line[held..held + more].copy_from_slice(&bytes[..more]);
+    held + more
 }

@@ -10,7 +10,7 @@ use lib.Dec.{ltb}
 use lib.ListN.{length, replicate}
 use borrow.Author.Tests.{ltb-true}
 use Rattle.octets.specs.Octets.{blank}
-use Rattle.refusal.specs.Outcome.{Outcome, refused, done, plain, after, checked, ◌and_then◌}
+use Rattle.refusal.specs.Outcome.{Outcome, refused, done, after, checked, ◌and_then◌}
 use Rattle.refusal.proofs.Reasons.{done-clear, Comes, unless-comes, then-comes}
 use Rattle.config.specs.declared.Config.{Config}
 use Rattle.config.specs.Config.{quorum, slots}
@@ -25,23 +25,13 @@ use Rattle.calls.specs.Receive.{receive_reasons, receive, receive_records, recei
 use Rattle.calls.proofs.NoEffect.{refused-open-changes-nothing, refused-broadcast-changes-nothing, refused-receive-changes-nothing}
 use Rattle.mbrb.specs.Code.{opened_code, announced_code, answer_code, received_code, reported_code, open_codes, broadcast_codes, receive_codes, listed, OpenListed, BroadcastListed, ReceiveListed, RefusalCode, RefusalsBelow100, RefusalCodeChangesNothing, OpenedMakesZero}
 
-without-count : (outcome : Outcome Update) → reported_code (outcome and_then λ result. done (reported result)) ≡ received_code outcome
+-- the count has no part in the code: what is reported has that of what is received
+pub reported_received : (outcome : Outcome Update) → reported_code (outcome and_then λ result. done (reported result)) ≡ received_code outcome
 unfolding reported
-without-count (refused number) = refl
-without-count (done result) = refl
-
-pub reported-received : (config : Config) (bundle records out : List ℕ) → reported_code (receive config bundle records out and_then λ result. done (reported result)) ≡ received_code (receive config bundle records out)
-reported-received config bundle records out = without-count (receive config bundle records out)
+reported_received (refused number) = refl
+reported_received (done result) = refl
 
 -- ---- opening
-
--- the records afterwards have no part in the code
-without-records : {A : Type 0} (outcome : Outcome A) → opened_code (plain outcome) ≡ opened_code outcome
-without-records (refused number) = refl
-without-records (done zeros) = refl
-
-pub plain-opened : (config : Config) (records : List ℕ) → opened_code (plain (opened config records)) ≡ opened_code (opened config records)
-plain-opened config records = without-records (opened config records)
 
 opened-listed : {A : Type 0} (outcome : Outcome A) → Comes (listed open_codes) (λ _. Unit) outcome → listed open_codes (opened_code outcome) ≡ true
 unfolding listed open_codes

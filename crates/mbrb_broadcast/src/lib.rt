@@ -1,6 +1,6 @@
 // The C interface: broadcasting through numbers and byte slices, with one code for an answer.
 //
-// include/mbrb.h declares the function beside those of crate mbrb. It is a crate of its own since a static library is
+// include/mbrb.h declares the function beside those of crate mbrb_c. It is a crate of its own since a static library is
 // compiled as one module: there the test of a record, which receiving and the search for a number share, would have two
 // callers, and the compiler would call it in place of joining it to each, which makes the search more than twice as long.
 #![tactic(auto)]
@@ -10,8 +10,8 @@ ghost use Rattle.config.specs.Config.{config_of};
 ghost use Rattle.calls.specs.Broadcast.{broadcast, broadcast_records, broadcast_out, announcement_of};
 ghost use Rattle.mbrb.specs.Code.{announced_code};
 
-use calls::Announcement;
 use config::Config;
+use refusal::Refusal;
 
 // Broadcasts a payload. The code is 200 plus the sequence number, or the refusal's number.
 #[unsafe(no_mangle)]
@@ -34,11 +34,8 @@ pub extern "C" fn mbrb_broadcast(
     announcement_code(calls::broadcast(config, payload, records, out))
 }
 
-fn announcement_code(announcement: Announcement) -> u32
+fn announcement_code(announcement: Result<u8, Refusal>) -> u32
     ensures { result ≡ announced_code (announcement_of announcement) }
 {
-    match announcement {
-        Announcement::Announced(seq) => 200 + (seq as u32),
-        Announcement::Refused(reason) => refusal::number(reason),
-    }
+    announcement.map_or_else(u32::from, |seq| 200 + u32::from(seq))
 }

@@ -1,16 +1,16 @@
-// The C interface: which nodes stand beside two payloads of one slot, by the records of two nodes, through numbers and byte slices.
+// The C interface: which nodes stand beside two payloads of one slot, by the records of two nodes, through numbers and
+// byte slices.
 //
-// include/mbrb.h declares the functions beside those of crate mbrb. They are a crate of their own, so that a host which does not compare
-// records does not link them.
+// include/mbrb.h declares the functions beside those of crate mbrb_c. They are a crate of their own, so that a host
+// which does not compare records does not link them.
 #![tactic(auto)]
 
 ghost use Rattle.std.specs.Prelude.{◌≡◌};
 ghost use Rattle.config.specs.Config.{config_of};
-ghost use Rattle.equivocators.specs.Equivocators.{equivocators, naming_of};
+ghost use Rattle.equivocators.specs.Equivocators.{equivocators};
 ghost use Rattle.mbrb_equivocators.specs.Code.{named_word, check_code};
 
 use config::Config;
-use equivocators::Naming;
 
 // The nodes that are named, a bit for each; 0 where the records are not compared.
 #[unsafe(no_mangle)]
@@ -27,7 +27,8 @@ pub extern "C" fn mbrb_equivocators(
 ) -> u64
     ensures { result ≡ named_word (equivocators (config_of n t d own day quorum) other first.now second.now) }
 {
-    word(equivocators::equivocators(Config::new(n, t, d, own, day, quorum), other, first, second))
+    let config = Config::new(n, t, d, own, day, quorum);
+    equivocators::equivocators(config, other, first, second).unwrap_or(0)
 }
 
 // Why the records are not compared: the refusal's number, or 0 where they are.
@@ -45,19 +46,6 @@ pub extern "C" fn mbrb_check_equivocators(
 ) -> u32
     ensures { result ≡ check_code (equivocators (config_of n t d own day quorum) other first.now second.now) }
 {
-    mbrb::verdict_code(equivocators::check_equivocators(
-        Config::new(n, t, d, own, day, quorum),
-        other,
-        first,
-        second,
-    ))
-}
-
-fn word(naming: Naming) -> u64
-    ensures { result ≡ named_word (naming_of naming) }
-{
-    match naming {
-        Naming::Named(named) => named,
-        Naming::Refused(_) => 0,
-    }
+    let config = Config::new(n, t, d, own, day, quorum);
+    mbrb::verdict_code(equivocators::check_equivocators(config, other, first, second))
 }

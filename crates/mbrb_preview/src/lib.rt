@@ -1,6 +1,6 @@
 // The C interface: what receiving a bundle would do, through numbers and byte slices, with receiving's codes.
 //
-// include/mbrb.h declares the function beside those of crate mbrb. It is a crate of its own since a static library is
+// include/mbrb.h declares the function beside those of crate mbrb_c. It is a crate of its own since a static library is
 // compiled as one module: there the decision that receiving and its preview share would have two callers, and the
 // compiler would call it in place of joining it to each, which costs receiving more than half as many instructions again.
 #![tactic(auto)]
@@ -13,6 +13,7 @@ ghost use Rattle.mbrb.specs.Code.{received_code};
 use config::Config;
 
 // Looks at a bundle: the code that mbrb_receive would give, and in `out` what it would leave there.
+#[tactic(auto, using(mbrb::proofs::Codes::reported_received))]
 #[unsafe(no_mangle)]
 pub extern "C" fn mbrb_preview(
     n: u8,

@@ -1,7 +1,7 @@
 // The C interface: one setpoint from what a node has delivered, through numbers and a byte slice, with one code.
 //
-// include/mbrb.h declares the function beside those of crate mbrb. It is a crate of its own, so that a host which does not pool
-// setpoints does not link it.
+// include/mbrb.h declares the function beside those of crate mbrb_c. It is a crate of its own, so that a host which
+// does not pool setpoints does not link it.
 #![tactic(auto)]
 
 ghost use Rattle.std.specs.Prelude.{◌≡◌};
@@ -10,10 +10,10 @@ ghost use Rattle.pool.specs.Pool.{setpoint, pooling_of};
 ghost use Rattle.mbrb_setpoint.specs.Code.{setpoint_code};
 
 use config::Config;
-use pool::Pooling;
+use refusal::Refusal;
 
-// Pools the setpoints that are delivered. The code is 65,536 plus the setpoint's two bytes as an unsigned number, or the
-// refusal's number.
+// Pools the setpoints that are delivered. The code is 65,536 plus the setpoint's two bytes as an unsigned number, or
+// the refusal's number.
 #[unsafe(no_mangle)]
 pub extern "C" fn mbrb_setpoint(
     n: u8,
@@ -29,11 +29,8 @@ pub extern "C" fn mbrb_setpoint(
     pooled_code(pool::setpoint(Config::new(n, t, d, own, day, quorum), records))
 }
 
-fn pooled_code(pooled: Pooling) -> u32
+fn pooled_code(pooled: Result<i16, Refusal>) -> u32
     ensures { result ≡ setpoint_code (pooling_of pooled) }
 {
-    match pooled {
-        Pooling::Value(value) => 65536 + (signed::to_bits(value) as u32),
-        Pooling::Refused(reason) => refusal::number(reason),
-    }
+    pooled.map_or_else(u32::from, |value| 65536 + u32::from(signed::to_bits(value)))
 }

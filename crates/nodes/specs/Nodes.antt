@@ -1,13 +1,12 @@
 -- The records of up to eight nodes in one buffer: each node's part of it, the day opened at every node, and a step row played at its node, with what
 -- is printed for it.
 -- Assumes nothing.
-use Rattle.std.specs.Prelude.{cond, List, [], ◌++◌, ℕ, zero, suc, ◌+◌, ◌*◌, leb, take, drop}
+use Rattle.std.specs.Prelude.{cond, List, [], ◌++◌, ℕ, zero, suc, ◌+◌, ◌*◌, leb, take, drop, Option, Some, None}
 use Rattle.octets.specs.Octets.{part}
 use Rattle.config.specs.declared.Config.{Config}
 use Rattle.config.specs.Config.{record_size, slots, records_size, with_own}
 use Rattle.calls.specs.Open.{open_records}
 use Rattle.row.specs.declared.StepRow.{StepRow}
-use Rattle.row.specs.declared.StepRow.TheVariants.{Unread, At}
 use Rattle.step.specs.Step.{answer_of, records_by, act_of, step_text, unread_text}
 
 -- R15.1: so many nodes a run may have
@@ -50,17 +49,18 @@ module _ (config : Config) where
   -- ---- a step row
 
   -- the records after it
-  abbrev pub row_records : (row : StepRow) (records : List ℕ) → List ℕ
-  row_records Unread records = records
-  row_records (At node step) records = put_records node (records_by (with_own config node) step (records_at node records)) records
+  abbrev pub row_records : (row : Option StepRow) (records : List ℕ) → List ℕ
+  row_records None records = records
+  row_records (Some row) records =
+      put_records row.node (records_by (with_own config row.node) row.step (records_at row.node records)) records
 
   -- What is printed for it. A row's ordinal is its place among the step rows, counted from 1: the printed column `line` (R16.2).
-  abbrev pub row_text : (ordinal : ℕ) (row : StepRow) (records : List ℕ) → List ℕ
-  row_text ordinal Unread records = unread_text ordinal
-  row_text ordinal (At node step) records =
-      step_text ordinal node (act_of step) (answer_of (with_own config node) step (records_at node records))
+  abbrev pub row_text : (ordinal : ℕ) (row : Option StepRow) (records : List ℕ) → List ℕ
+  row_text ordinal None records = unread_text ordinal
+  row_text ordinal (Some row) records =
+      step_text ordinal row.node (act_of row.step) (answer_of (with_own config row.node) row.step (records_at row.node records))
 
   -- the same for a row that is read, and nothing for one that is not
-  abbrev pub read_text : (ordinal : ℕ) (row : StepRow) (records : List ℕ) → List ℕ
-  read_text ordinal Unread records = []
-  read_text ordinal (At node step) records = row_text ordinal (At node step) records
+  abbrev pub read_text : (ordinal : ℕ) (row : Option StepRow) (records : List ℕ) → List ℕ
+  read_text ordinal None records = []
+  read_text ordinal (Some row) records = row_text ordinal (Some row) records

@@ -29,11 +29,10 @@ pub fn load(slice: &[u8]) -> Note
     ensures { bytes_in result ≡ loaded slice.now }
 {
     let block = block::load(slice);
-    let payload = block.payload;
     Note {
         signers: block.first,
         zero: block.second,
-        payload,
+        payload: block.payload,
     }
 }
 
@@ -116,11 +115,10 @@ impl Note {
     fn block(self) -> Block
         ensures { block_bytes result ≡ bytes_in self }
     {
-        let payload = self.payload;
         Block {
             first: self.signers,
             second: self.zero,
-            payload,
+            payload: self.payload,
         }
     }
 }

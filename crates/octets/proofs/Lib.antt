@@ -2,7 +2,6 @@
 pub mod Numbers
 pub mod WordRead
 pub mod WordWritten
-pub mod Cleared
 pub mod ComputedTests
 pub mod Same
 pub mod Booleans

@@ -1,25 +1,14 @@
--- Writing words: eight stores make eight bytes those of a word, and words put one after the other fill a slice from its start.
+-- Writing words: a word is put over a part of a slice, and words put one after the other fill a slice from its start.
 -- Assumes nothing.
 use mathlib.Core.Path.{◌≡◌, refl, sym, ap, ◌∙◌}
-use mathlib.Core.List.{List, [], ◌++◌, reverse, reverse-reverse, append_assoc, append-nil}
+use mathlib.Core.List.{List, [], ◌++◌, append_assoc, append-nil}
 use Prim.Native.Nat.{ℕ, ◌+◌, ◌-◌, ◌≤◌, ◌<◌}
 use native.Mathlib.Omega.{arith}
 use borrow.Author.Tests.{le-leb, lt-leb}
 use lib.ListN.{length, take, drop, length-append, length-drop, drop_of_length-le}
-use lib.Seq.{drop-drop, take_at, drop-append-add, sets, sets-eq}
+use lib.Seq.{drop-drop, take_at, drop-append-add}
 use Rattle.octets.specs.Octets.{bytes_of, placed}
 use Rattle.octets.proofs.Numbers.{length-bytes_of}
-use Rattle.octets.proofs.WordRead.{low_first, low_first-reverse}
-
--- eight stores of a word's bytes, the last byte first in `y`
-pub stored-word : (xs : List ℕ) (x y : ℕ) → length xs ≡ 8 → bytes_of 8 y ≡ reverse (bytes_of 8 x) → sets xs 0 (low_first y) ≡ bytes_of 8 x
-stored-word xs x y l e =
-    sets-eq (low_first y) xs 0 (omega arith)
-    ∙ ap (λ (r : List ℕ). low_first y ++ r) (drop_of_length-le xs {i = 8} (omega arith))
-    ∙ append-nil (low_first y)
-    ∙ low_first-reverse y
-    ∙ ap reverse e
-    ∙ reverse-reverse (bytes_of 8 x)
 
 module _ (at x : ℕ) (xs : List ℕ) where
   -- a word goes where there is room for it,

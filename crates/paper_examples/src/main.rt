@@ -4,54 +4,45 @@
 // (R5.3). Where a write fails, the program ends with its error.
 #![tactic(auto)]
 
-use bundle::Reading;
 use config::Config;
-use refusal::Verdict;
-use std::io;
+use std::{fmt, io};
 
 fn main(rt: HostRuntime) -> io::Result<()> {
     tables(&rt)?;
     bundles(&rt)?;
-    refusals(&rt)
-}
-
-fn tables(rt: &impl Print) -> io::Result<()> {
-    text(rt, b"units faults losses chosen quorum\n")?;
-    table(rt, 1, 0, 0, 1)?;
-    table(rt, 2, 0, 0, 2)?;
-    table(rt, 4, 1, 0, 3)?;
-    table(rt, 6, 1, 1, 4)?;
-    table(rt, 64, 21, 0, 43)?;
-    table(rt, 64, 0, 31, 33)?;
-    table(rt, 0, 0, 0, 1)?;
-    table(rt, 5, 1, 1, 4)?;
-    table(rt, 64, 0, 32, 33)?;
-    table(rt, 65, 0, 0, 33)?;
-    // Half of n + t, rounded up, is 3 here and too few (R17.5).
-    table(rt, 5, 1, 0, 3)?;
-    table(rt, 5, 1, 0, 4)?;
-    // What a site with these units may choose (R2.11), and what it may not.
-    table(rt, 8, 1, 1, 0)?;
-    table(rt, 8, 1, 1, 4)?;
-    table(rt, 8, 1, 1, 5)?;
-    table(rt, 8, 1, 1, 6)?;
-    table(rt, 8, 1, 1, 7)?;
-    table(rt, 8, 1, 1, 0xffff_ffff)
+    readings(&rt)?;
+    writings(&rt)
 }
 
 // The numbers of a table, and the quorum that it gives, which is 0 if it is not good.
-fn table(rt: &impl Print, n: u8, t: u8, d: u8, q: u32) -> io::Result<()> {
-    let config = Config::new(n, t, d, 0, 7, q);
-    decimal(rt, n as u64)?;
-    text(rt, b" ")?;
-    decimal(rt, t as u64)?;
-    text(rt, b" ")?;
-    decimal(rt, d as u64)?;
-    text(rt, b" ")?;
-    decimal(rt, q as u64)?;
-    text(rt, b" ")?;
-    decimal(rt, config.quorum() as u64)?;
-    text(rt, b"\n")
+fn tables(rt: &impl Print) -> io::Result<()> {
+    println!(rt; "units faults losses chosen quorum")?;
+    for (n, t, d, q) in [
+        (1, 0, 0, 1),
+        (2, 0, 0, 2),
+        (4, 1, 0, 3),
+        (6, 1, 1, 4),
+        (64, 21, 0, 43),
+        (64, 0, 31, 33),
+        (0, 0, 0, 1),
+        (5, 1, 1, 4),
+        (64, 0, 32, 33),
+        (65, 0, 0, 33),
+        // Half of n + t, rounded up, is 3 here and too few (R17.5).
+        (5, 1, 0, 3),
+        (5, 1, 0, 4),
+        // What a site with these units may choose (R2.11), and what it may not.
+        (8, 1, 1, 0),
+        (8, 1, 1, 4),
+        (8, 1, 1, 5),
+        (8, 1, 1, 6),
+        (8, 1, 1, 7),
+        (8, 1, 1, u32::MAX),
+    ] {
+        let quorum = Config::new(n, t, d, 0, 7, q).quorum();
+        println!(rt; "{n} {t} {d} {q} {quorum}")?;
+    }
+    Ok(())
 }
 
 // The play's configuration at one of its nodes: four nodes, one of which may lie, on day 7, with the least
@@ -60,137 +51,109 @@ fn play(own: u8) -> Config {
     Config::new(4, 1, 0, own, 7, config::least_quorum(4, 1))
 }
 
-// The bundles of the play's steps, by step: node, then the bytes, then what that node reads in them.
+// The bundles of the play's steps, by step: node, then the bytes, then what that node reads in them. The signers
+// are put in afterwards: step 6 lacks its sender's signature, and `bundle::write` would refuse it.
 fn bundles(rt: &impl Print) -> io::Result<()> {
-    text(rt, b"step unit bundle reading\n")?;
-    step(rt, 2, 1, 1)?;
-    step(rt, 3, 1, 1)?;
-    step(rt, 4, 2, 3)?;
-    step(rt, 5, 2, 7)?;
-    step(rt, 6, 3, 2)?;
-    step(rt, 7, 0, 7)?;
-    text(rt, b"signers of step 5: ")?;
-    decimal(rt, heard(&with_byte(15, 7)) as u64)?;
-    text(rt, b"\n")
-}
-
-// How many have signed, as node 1 reads it.
-fn heard(bytes: &[u8]) -> u32 {
-    match bundle::read(play(1), bytes) {
-        Reading::Accepted(header) => signers::size(header.signers),
-        Reading::Refused(reason) => refusal::number(reason),
+    println!(rt; "step unit bundle reading")?;
+    for (step, node, signers) in [
+        (2, 1, 1),
+        (3, 1, 1),
+        (4, 2, 3),
+        (5, 2, 7),
+        (6, 3, 2),
+        (7, 0, 7),
+    ] {
+        let bytes = with_byte(15, signers);
+        println!(rt;
+            "{step} {node} {} {}",
+            Hex(&bytes),
+            Seen(play(node), &bytes)
+        )?;
     }
+    println!(rt; "signers of step 5: {}", heard(&with_byte(15, 7)))
 }
 
-// The signers are put in afterwards: step 6 lacks its sender's signature, and `write` would refuse it.
-fn step(rt: &impl Print, place: u64, node: u8, signers: u8) -> io::Result<()> {
-    let bytes = with_byte(15, signers);
-    decimal(rt, place)?;
-    text(rt, b" ")?;
-    decimal(rt, node as u64)?;
-    text(rt, b" ")?;
-    hex(rt, &bytes)?;
-    text(rt, b" ")?;
-    reading(rt, play(node), &bytes)
+// How many have signed, as node 1 reads it; where it refuses, the reason's number.
+fn heard(bytes: &[u8]) -> u32 {
+    bundle::read(play(1), bytes).map_or_else(u32::from, |header| signers::size(header.signers))
 }
 
-// The bundle of step 2 with another byte at one place.
+// The bundle of step 2 with another byte at one place. That it was written shows in what is printed of it.
 fn with_byte(at: usize, value: u8) -> [u8; bundle::SIZE] {
-    let mut bytes = [0u8; bundle::SIZE];
-    bundle::write(
-        play(1),
-        0,
-        0,
-        1,
-        b"\x00\x01\x02\x03\x04\x05\x06\x07\x08\x09\x0a\x0b\x0c\x0d\x0e\x0f",
-        &mut bytes,
-    );
-    if at < bundle::SIZE {
-        bytes[at] = value;
+    let mut bytes = [0; bundle::SIZE];
+    let payload = b"\x00\x01\x02\x03\x04\x05\x06\x07\x08\x09\x0a\x0b\x0c\x0d\x0e\x0f";
+    let _ = bundle::write(play(1), 0, 0, 1, payload, &mut bytes);
+    if let Some(byte) = bytes.get_mut(at) {
+        *byte = value;
     }
     bytes
 }
 
-fn reading(rt: &impl Print, config: Config, bytes: &[u8]) -> io::Result<()> {
-    match bundle::read(config, bytes) {
-        Reading::Accepted(header) => {
-            decimal(rt, header.sender as u64)?;
-            text(rt, b" ")?;
-            decimal(rt, header.seq as u64)?;
-            text(rt, b" ")?;
-            print!(rt; "{:016x}", header.signers)?;
-            text(rt, b" ")?;
-            hex(rt, bundle::payload(config, bytes))?;
-            text(rt, b"\n")
-        }
-        Reading::Refused(reason) => {
-            text(rt, b"refused ")?;
-            decimal(rt, refusal::number(reason) as u64)?;
-            text(rt, b"\n")
-        }
-    }
-}
-
-fn refusals(rt: &impl Print) -> io::Result<()> {
-    text(rt, b"reasons of reading\n")?;
-    reading(rt, play(4), &with_byte(bundle::SIZE, 0))?;
-    reading(rt, play(1), b"not a bundle")?;
-    reading(rt, play(1), &with_byte(6, 1))?;
-    reading(rt, play(1), &with_byte(3, 8))?;
-    reading(rt, play(1), &with_byte(4, 4))?;
-    reading(rt, play(1), &with_byte(5, 16))?;
-    reading(rt, play(1), &with_byte(15, 17))?;
-    reading(rt, play(1), &with_byte(15, 2))?;
-    text(rt, b"reasons of writing\n")?;
-    let payload = b"sixteen bytes ok";
-    let mut out = [0xeeu8; bundle::SIZE];
-    let mut short = [0xeeu8; bundle::SIZE - 1];
-    writing(rt, play(4), 0, 0, 1, payload, &mut out)?;
-    writing(rt, play(1), 4, 0, 1, payload, &mut out)?;
-    writing(rt, play(1), 0, 16, 1, payload, &mut out)?;
-    writing(rt, play(1), 0, 0, 17, payload, &mut out)?;
-    writing(rt, play(1), 0, 0, 2, payload, &mut out)?;
-    writing(rt, play(1), 0, 0, 1, b"fifteen bytes..", &mut out)?;
-    writing(rt, play(1), 0, 0, 1, payload, &mut short)?;
-    writing(rt, play(1), 0, 0, 1, payload, &mut out)
-}
-
-// What writing answers, and what the outgoing bytes are then.
-fn writing(
-    rt: &impl Print,
-    config: Config,
-    sender: u8,
-    seq: u8,
-    signers: u64,
-    payload: &[u8],
-    out: &mut [u8],
-) -> io::Result<()> {
-    match bundle::write(config, sender, seq, signers, payload, out) {
-        Verdict::Done => {
-            text(rt, b"written ")?;
-        }
-        Verdict::Refused(reason) => {
-            text(rt, b"refused ")?;
-            decimal(rt, refusal::number(reason) as u64)?;
-            text(rt, b" ")?;
-        }
-    }
-    hex(rt, out)?;
-    text(rt, b"\n")
-}
-
-fn text(rt: &impl Print, bytes: &[u8]) -> io::Result<()> {
-    rt.write_all(bytes)
-}
-
-fn decimal(rt: &impl Print, x: u64) -> io::Result<()> {
-    print!(rt; "{x}")
-}
-
-// A payload or a bundle in hexadecimal, word by word.
-fn hex(rt: &impl Print, bytes: &[u8]) -> io::Result<()> {
-    for word in bytes.chunks_exact(8) {
-        print!(rt; "{:016x}", octets::word(word))?;
+// Reasons 1 to 8, the reader's, in the order of the numbers.
+fn readings(rt: &impl Print) -> io::Result<()> {
+    println!(rt; "reasons of reading")?;
+    println!(rt; "{}", Seen(play(4), &with_byte(15, 1)))?;
+    println!(rt; "{}", Seen(play(1), b"not a bundle"))?;
+    for (at, value) in [(6, 1), (3, 8), (4, 4), (5, 16), (15, 17), (15, 2)] {
+        println!(rt; "{}", Seen(play(1), &with_byte(at, value)))?;
     }
     Ok(())
+}
+
+// The reasons of writing in the order of the numbers, with what the outgoing bytes are then, which are ee before it.
+fn writings(rt: &impl Print) -> io::Result<()> {
+    println!(rt; "reasons of writing")?;
+    let payload = b"sixteen bytes ok";
+    for (own, sender, seq, signers, payload, size) in [
+        (4, 0, 0, 1, payload.as_slice(), bundle::SIZE),
+        (1, 4, 0, 1, payload, bundle::SIZE),
+        (1, 0, 16, 1, payload, bundle::SIZE),
+        (1, 0, 0, 17, payload, bundle::SIZE),
+        (1, 0, 0, 2, payload, bundle::SIZE),
+        (1, 0, 0, 1, b"fifteen bytes..", bundle::SIZE),
+        (1, 0, 0, 1, payload, bundle::SIZE - 1),
+        (1, 0, 0, 1, payload, bundle::SIZE),
+    ] {
+        let mut out = [0xee; bundle::SIZE];
+        let out = &mut out[..size];
+        match bundle::write(play(own), sender, seq, signers, payload, out) {
+            Ok(()) => println!(rt; "written {}", Hex(out))?,
+            Err(reason) => println!(rt; "refused {} {}", u32::from(reason), Hex(out))?,
+        }
+    }
+    Ok(())
+}
+
+// What the node of a configuration reads in a bundle: the fields and the payload, or why it refuses.
+#[derive(Clone, Copy)]
+struct Seen<'a>(Config, &'a [u8]);
+
+impl fmt::Display for Seen<'_> {
+    fn fmt<W: fmt::Write>(&self, f: &mut fmt::Formatter<W>) -> fmt::Result {
+        let Seen(config, bytes) = *self;
+        match bundle::read(config, bytes) {
+            Ok(header) => write!(
+                f,
+                "{} {} {:016x} {}",
+                header.sender,
+                header.seq,
+                header.signers,
+                Hex(bundle::payload(config, bytes))
+            ),
+            Err(reason) => write!(f, "refused {}", u32::from(reason)),
+        }
+    }
+}
+
+// Bytes in hexadecimal, word by word; what is less than a word at the end is left out.
+#[derive(Clone, Copy)]
+struct Hex<'a>(&'a [u8]);
+
+impl fmt::Display for Hex<'_> {
+    fn fmt<W: fmt::Write>(&self, f: &mut fmt::Formatter<W>) -> fmt::Result {
+        for word in self.0.chunks_exact(8) {
+            write!(f, "{:016x}", octets::word(word))?;
+        }
+        Ok(())
+    }
 }

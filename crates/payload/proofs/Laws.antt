@@ -71,6 +71,6 @@ loaded-whole slice l b =
     ∙ take-append-drop 8 slice
     ∙ sym (loaded_self slice l)
 
-pub loaded-other : (slice : List ℕ) → (length slice ≡ payload_size → ⊥) → bytes_of 8 0 ++ bytes_of 8 0 ≡ loaded slice
-unfolding loaded bytes_of
-loaded-other slice l = rw (ne_eqb (length slice) payload_size l)
+pub loaded-other : (slice : List ℕ) (p : Payload) → (length slice ≡ payload_size → ⊥) → p.high ≡ 0 → p.low ≡ 0 → bytes p ≡ loaded slice
+unfolding loaded bytes bytes_of
+loaded-other slice p l high low = rw (high, low, ne_eqb (length slice) payload_size l)

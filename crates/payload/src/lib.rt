@@ -9,7 +9,7 @@ ghost use Rattle.payload.specs.Payload.{bytes, loaded};
 // A payload's bytes.
 pub const SIZE: usize = 16;
 
-#[derive(Clone, Copy)]
+#[derive(Clone, Copy, Debug, Default, PartialEq, Eq)]
 pub struct Payload {
     // bytes 0 to 7
     pub high: u64,
@@ -22,11 +22,11 @@ pub fn load(slice: &[u8]) -> Payload
     ensures { bytes result ≡ loaded slice.now }
 {
     if slice.len() != SIZE {
-        return Payload { high: 0, low: 0 };
+        return Payload::default();
     }
     Payload {
-        high: octets::word(&slice[0..8]),
-        low: octets::word(&slice[8..16]),
+        high: octets::word(&slice[..8]),
+        low: octets::word(&slice[8..]),
     }
 }
 
@@ -45,19 +45,13 @@ impl Payload {
     pub fn is_blank(self) -> bool
         ensures { result ≡ blank (bytes self) }
     {
-        if self.high != 0 {
-            return false;
-        }
-        self.low == 0
+        self == Payload::default()
     }
 
     // Whether the two have the same bytes.
     pub fn equals(self, other: Payload) -> bool
         ensures { result ≡ same_bytes (bytes self) (bytes other) }
     {
-        if self.high != other.high {
-            return false;
-        }
-        self.low == other.low
+        self == other
     }
 }

@@ -30,8 +30,7 @@ fn main(rt: HostRuntime) {
         // All n bytes are used: the buffer has room for no more than CHUNK.
         let fed = run::feed(run, &chunk[..n], &mut line, &mut records, &mut out);
         run = fed.run;
-        let len = fed.len;
-        if !print(&rt, &out[..len]) {
+        if !print(&rt, &out[..fed.len]) {
             return;
         }
     }

@@ -1,19 +1,22 @@
 -- What is pooled, by the records: the setpoint that a record holds, one record more of a sender, one sender more; and the refusals of the call.
 -- Assumes nothing.
 use mathlib.Core.Path.{◌≡◌, refl, sym, ap, ◌∙◌}
-use mathlib.Core.Bool.{Bool, true, false, cond}
-use mathlib.Core.List.{List, [], ◌∷◌, ◌++◌}
+use mathlib.Core.Bool.{Bool, true, false, cond, not}
+use mathlib.Core.List.{List, [], ◌∷◌, ◌++◌, append-nil}
 use Prim.Native.Nat.{ℕ, zero, suc, ◌+◌, ◌*◌, ◌≤◌, ◌<◌}
 use native.Mathlib.Nat.{le_step, lt-suc_self}
 use native.Mathlib.Numerals.{add-one}
 use native.Mathlib.Omega.{arith}
 use lib.Dec.{ltb, lit≤}
 use lib.IntN.{ℤ}
-use lib.ListN.{length, take, length-append}
+use lib.ListN.{length, take, set, length-append}
+use lib.Seq.{take-suc-set}
 use borrow.Author.Tests.{eq-eqb, ne_eqb, lt-ltb, le-ltb, ltb-true, ltb-false}
+use Rattle.std.specs.Prelude.{Option, Some, None}
+use Rattle.std.specs.Option.{option_or}
 use Rattle.octets.proofs.Numbers.{part-part}
-use Rattle.refusal.specs.Outcome.{refused, done}
-use Rattle.refusal.proofs.Reasons.{passed, failed, pass, stop, clear-done}
+use Rattle.refusal.specs.Outcome.{refused, done, ◌if◌}
+use Rattle.refusal.proofs.Reasons.{passed, failed, pass, stop, clear-done, refused-first}
 use Rattle.payload.specs.Payload.{payload_size}
 use Rattle.config.specs.declared.Config.{Config}
 use Rattle.config.specs.declared.Slot.{Slot}
@@ -22,12 +25,13 @@ use Rattle.protocol.specs.Update.{is_delivered}
 use Rattle.record.specs.Record.{decoded, payload_at, payload_field}
 use Rattle.calls.specs.Records.{record_at}
 use Rattle.calls.specs.WellFormed.{slot_well_formed, all_well_formed}
+use Rattle.calls.specs.Open.{open_reasons}
+use Rattle.calls.specs.Day.{day_of}
 use Rattle.calls.specs.Showing.{delivered_part}
 use Rattle.calls.proofs.Refusals.{delivered-not, delivered-done}
-use Rattle.setpoint.specs.Setpoint.{setpoint_in, is_setpoint, hundredths}
+use Rattle.setpoint.specs.Setpoint.{setpoint_in, is_setpoint, hundredths, value_in}
 use Rattle.middle.specs.Middle.{lower_middle}
 use Rattle.pool.specs.Pool.{delivered_setpoint, delivered_setpoints, latest, pooled, pool, setpoint_reasons, setpoint}
-use Rattle.pool.specs.Inner.{found_in}
 
 -- ---- a sender's records, one by one
 
@@ -60,16 +64,13 @@ module _ (config : Config) (records : List ℕ) (g : good config ≡ true) (size
         go true = refl
         go false = none_said
 
-  -- the latest setpoint with one record more: the one in it, or else the one before
-  pub latest-found : (seq : ℕ) (value : ℤ) → delivered_setpoint config records sender seq ≡ value ∷ []
-      → found_in true value ≡ take 1 (delivered_setpoints config records sender (seq + 1))
-  unfolding delivered_setpoints
-  latest-found seq value is = rw (add-one seq, is)
-
-  pub latest-stays : (seq : ℕ) → delivered_setpoint config records sender seq ≡ []
-      → take 1 (delivered_setpoints config records sender seq) ≡ take 1 (delivered_setpoints config records sender (seq + 1))
-  unfolding delivered_setpoints
-  latest-stays seq is = rw (add-one seq, is)
+-- the latest setpoint with one record more: the one in it, or else the one before
+pub latest-next : (config : Config) (records : List ℕ) (sender seq : ℕ) (found known : Option ℤ) → delivered_setpoint config records sender seq ≡ value_in found
+    → value_in known ≡ take 1 (delivered_setpoints config records sender seq)
+    → value_in (option_or found known) ≡ take 1 (delivered_setpoints config records sender (seq + 1))
+unfolding delivered_setpoints
+latest-next config records sender seq (Some value) known is before = rw (add-one seq, is)
+latest-next config records sender seq None known is before = rw (add-one seq, is) before
 
 -- ---- the latest setpoint, and where it is delivered
 
@@ -120,13 +121,27 @@ module _ (config : Config) (records : List ℕ) (sender : ℕ) where
 
 -- ---- one sender more
 
-pub pooled-next : (config : Config) (records : List ℕ) (sender : ℕ) → pooled config records (sender + 1) ≡ pooled config records sender ++ latest config records sender
-unfolding pooled
-pooled-next config records sender = rw (add-one sender)
+-- the values before `count` are the pool of the senders so far, and stay so with one sender more: its latest setpoint is stored, if it has one
+module _ (config : Config) (records : List ℕ) (sender count : ℕ) (values : List ℤ) (so_far : take count values ≡ pooled config records sender) where
+  pub pooled-more : (value : ℤ) → count < length values → value ∷ [] ≡ latest config records sender
+      → take (count + 1) (set values count value) ≡ pooled config records (sender + 1)
+  unfolding pooled
+  pooled-more value room is = rw (add-one count, add-one sender, take-suc-set values count value room, so_far, is)
+
+  pub pooled-same : [] ≡ latest config records sender → take count values ≡ pooled config records (sender + 1)
+  unfolding pooled
+  pooled-same is = rw (add-one sender, ← is, append-nil) so_far
 
 -- ---- the refusals
 
 module _ (config : Config) (records : List ℕ) where
+  -- what makes no day is what pooling refuses first
+  pub setpoint-dayless : (number : ℕ) → refused number ≡ day_of config records → refused number ≡ setpoint config records
+  unfolding setpoint setpoint_reasons day_of open_reasons
+  setpoint-dayless number e =
+      sym (refused-first ((21 if not (all_well_formed config records)) ∷ (27 if ltb (length (pool config records)) (2 * config.t + 1)) ∷ []) (config, records)
+      (lower_middle (pool config records)) (open_reasons config records) number (sym e))
+
   pub setpoint-bad : good config ≡ false → setpoint config records ≡ refused 1
   unfolding setpoint setpoint_reasons
   setpoint-bad g = stop 1 _ _ (failed g)

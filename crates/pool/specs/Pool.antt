@@ -1,8 +1,9 @@
 -- RULES section 18: one setpoint from what a node has delivered.
 -- Assumes nothing.
-use Rattle.std.specs.Prelude.{not, List, [], ◌∷◌, ◌++◌, ℕ, zero, suc, ◌+◌, ◌*◌, ltb, ℤ, length, take}
-use Rattle.refusal.specs.Refusal.{number_of}
-use Rattle.refusal.specs.Outcome.{Outcome, refused, done, Reason, ◌if◌, unless}
+use Rattle.std.specs.Prelude.{not, List, [], ◌∷◌, ◌++◌, ℕ, zero, suc, ◌+◌, ◌*◌, ltb, ℤ, length, take, Result}
+use Rattle.refusal.specs.declared.Refusal.{Refusal}
+use Rattle.refusal.specs.Refusal.{outcome_of}
+use Rattle.refusal.specs.Outcome.{Outcome, Reason, ◌if◌, unless}
 use Rattle.config.specs.declared.Config.{Config}
 use Rattle.config.specs.Config.{good, slots, slot_of_day}
 use Rattle.calls.specs.Records.{wrong_size}
@@ -10,8 +11,6 @@ use Rattle.calls.specs.WellFormed.{all_well_formed}
 use Rattle.calls.specs.Showing.{delivered_part}
 use Rattle.setpoint.specs.Setpoint.{setpoint_in}
 use Rattle.middle.specs.Middle.{lower_middle}
-use Rattle.pool.specs.declared.Pooling.{Pooling}
-use Rattle.pool.specs.declared.Pooling.TheVariants.{Value, Refused}
 
 module _ (config : Config) (records : List ℕ) where
   -- R18.4: the setpoint that is delivered in a slot, and none if showing gives no payload there (R9.2) or one that says something else
@@ -49,6 +48,5 @@ module _ (config : Config) (records : List ℕ) where
   setpoint = unless setpoint_reasons (lower_middle pool)
 
 -- the outcome of each case, or the number of the refusal (R17.3)
-abbrev pub pooling_of : Pooling → Outcome ℤ
-pooling_of (Value z) = done z
-pooling_of (Refused reason) = refused (number_of reason)
+abbrev pub pooling_of : Result ℤ Refusal → Outcome ℤ
+pooling_of = outcome_of (λ value. value)

@@ -1,119 +1,60 @@
-// RULES section 18: one setpoint from many. Of each sender the delivered setpoint with the highest number is pooled, called its
-// latest here, and the outcome is the lower middle of the pool.
+// RULES section 18: one setpoint from many. Of each sender the delivered setpoint with the highest number is pooled,
+// called its latest here, and the outcome is the lower middle of the pool.
 #![tactic(auto)]
 
-ghost use Rattle.std.specs.Prelude.{◌≡◌, true, ◌<◌, length};
-ghost use Rattle.config.specs.Config.{good, records_size};
+ghost use Rattle.std.specs.Prelude.{◌≡◌, ◌<◌, length};
 ghost use Rattle.pool.specs.Pool.{setpoint as setpoint_of, pooling_of};
 ghost use Rattle.pool.specs.Inner.{Scanned, Collects};
 
+use calls::Day;
 use config::Config;
 use refusal::Refusal;
-use setpoint::Setpoint;
 
 // How many values the pool can have: one for each node.
 const SPACE: usize = 64;
 
-// The outcome, in hundredths of a degree Celsius, or why there is none.
-#[derive(Clone, Copy)]
-pub enum Pooling {
-    Value(i16),
-    Refused(Refusal),
-}
-
-// R18.7: the setpoint of the whole system, from what this node has delivered. The records are lent for reading. Each of them is
-// tested, whether it counts or not.
-pub fn setpoint(config: Config, records: &[u8]) -> Pooling
+// R18.7: the setpoint of the whole system, in hundredths of a degree Celsius, from what this node has delivered. The
+// records are lent for reading. Each of them is tested, whether it counts or not.
+pub fn setpoint(config: Config, records: &[u8]) -> Result<i16, Refusal>
     ensures { pooling_of result ≡ setpoint_of config records.now }
 {
-    if !config.good() {
-        return Pooling::Refused(Refusal::BadConfig);
-    }
-    if records.len() != config.records_size() {
-        return Pooling::Refused(Refusal::RecordsLength);
-    }
+    let day = Day::new(config, records)?;
     let mut values = [0i16; SPACE];
-    let collection = collect(config, records, &mut values);
-    let Collection::Pool(count) = collection else {
-        return Pooling::Refused(Refusal::MalformedRecord);
-    };
-    if count <= 2 * (config.t as usize) {
-        return Pooling::Refused(Refusal::TooFewSetpoints);
+    let count = collect(day, &mut values)?;
+    if count <= 2 * usize::from(config.t) {
+        return Err(Refusal::TooFewSetpoints);
     }
-    Pooling::Value(middle::lower_middle(&mut values[..count]))
+    Ok(middle::lower_middle(&mut values[..count]))
 }
 
-// What is collected: a pool of so many values, or nothing, since a record is malformed.
-#[derive(Clone, Copy)]
-enum Collection {
-    Pool(usize),
-    Malformed,
-}
-
-// R18.5: stores each sender's latest setpoint in `values`, one after the other. A value is stored before it is known to count, and
-// the next one goes over it if it does not: that costs less than a branch.
-fn collect(config: Config, records: &[u8], values: &mut [i16]) -> Collection
-    requires config_value { good config ≡ true }
-    requires records_len { length records.now ≡ records_size config }
-    requires values_len { length values.old ≡ 64 }
-    ensures { Collects config records.now result values.new }
+// R18.5: stores each sender's latest setpoint in `values`, one after the other, and tells how many there are. They lie
+// in a buffer with a count beside it, since the library takes no memory from a heap.
+fn collect(day: Day<'_>, values: &mut [i16]) -> Result<usize, Refusal>
+    requires { length values.old ≡ 64 }
+    ensures { Collects day.entry.config day.entry.records.now result values.new }
 {
     let mut count: usize = 0;
-    let mut sender = 0;
-    while sender < config.n {
-        let latest = scan(config, sender, records);
-        if !latest.formed {
-            return Collection::Malformed;
-        }
-        let value = latest.value;
-        values[count] = value;
-        if latest.found {
+    for sender in 0..day.config.n {
+        let latest = scan(day, sender)?;
+        if let Some(value) = latest {
+            values[count] = value;
             count += 1;
         }
-        sender += 1;
     }
-    Collection::Pool(count)
+    Ok(count)
 }
 
-// What a sender's records hold: whether all are well-formed, and its latest setpoint, if one is found.
-#[derive(Clone, Copy)]
-struct Latest {
-    formed: bool,
-    found: bool,
-    value: i16,
-}
-
-// R18.4: looks at the sixteen records of a sender. The last setpoint that it finds has the highest number.
-fn scan(config: Config, sender: u8, records: &[u8]) -> Latest
-    requires config_value { good config ≡ true }
-    requires records_len { length records.now ≡ records_size config }
-    requires sender_lt_n { sender < config.n }
-    ensures { Scanned config records.now sender result }
+// R18.4: looks at the sixteen records of a sender for its latest setpoint. The last one found has the highest number.
+fn scan(day: Day<'_>, sender: u8) -> Result<Option<i16>, Refusal>
+    requires { sender < day.config.n }
+    ensures { Scanned day.entry.config day.entry.records.now sender result }
 {
-    let mut found = false;
-    let mut value: i16 = 0;
-    let mut seq = 0;
-    while seq < config::SLOTS {
-        let start = config.slot_of_day(sender, seq).place();
-        let record = record::load(&records[start..start + config::RECORD_SIZE]);
-        if !record.well_formed(config, sender) {
-            return Latest {
-                formed: false,
-                found,
-                value,
-            };
-        }
+    let mut latest = None;
+    for seq in 0..config::SLOTS {
+        let record = day.well_formed_record(sender, seq)?;
         if record.is_delivered() {
-            if let Setpoint::Value(latest) = setpoint::read(record.payload) {
-                value = latest;
-                found = true;
-            }
+            latest = setpoint::read(record.payload).or(latest);
         }
-        seq += 1;
     }
-    Latest {
-        formed: true,
-        found,
-        value,
-    }
+    Ok(latest)
 }

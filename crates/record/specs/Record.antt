@@ -1,20 +1,22 @@
 -- RULES section 4: the 64 bytes in which a node keeps what it has of a slot, and when they are well-formed, called sound in the rules; and what a bundle does
 -- to them. Their second half, what is noted, is in note's specs/Note.antt.
 -- Assumes nothing.
-use Rattle.std.specs.Prelude.{Bool, not, cond, ◌&&◌, List, [], ◌∷◌, ◌++◌, ℕ, ltb, leb, eqb, length, get_or, replicate}
+use Rattle.std.specs.Prelude.{Bool, not, cond, ◌&&◌, List, [], ◌∷◌, ◌++◌, ℕ, ltb, leb, eqb, length, get_or, replicate, Result}
 use Rattle.octets.specs.Octets.{number, bytes_of, part, blank}
 use Rattle.payload.specs.Payload as payload
 use Rattle.block.specs.Block as block
 use Rattle.signers.specs.Signers.{member, within, size}
-use Rattle.refusal.specs.Refusal.{number_of}
-use Rattle.refusal.specs.Outcome.{Outcome, refused, done, ◌if◌, checked, ◌and_then◌}
+use Rattle.refusal.specs.Refusal.{outcome_of}
+use Rattle.refusal.specs.declared.Refusal.{Refusal}
+use Rattle.refusal.specs.Outcome.{Outcome, done, ◌if◌, checked, ◌and_then◌}
 use Rattle.config.specs.declared.Config.{Config}
 use Rattle.config.specs.Config.{quorum, record_size}
 use Rattle.protocol.specs.Update as protocol
-use Rattle.protocol.specs.Update.{Answer, kept, signed, delivered, noted, Update, Empty, Held, Delivered}
+use Rattle.protocol.specs.Update.{kept, signed, delivered, noted, Update, Empty, Held, Delivered}
 use Rattle.note.specs.Note as note
 use Rattle.record.specs.declared.Record.{Record}
-use Rattle.record.specs.declared.Received as Received
+use Rattle.record.specs.declared.Received.{Received}
+use Rattle.record.specs.declared.Answer as Answer
 
 -- R4.1: the state in one byte, seven zero bytes, the signers in eight, the payload, and what is noted
 unfoldable pub layout : (state signers : ℕ) (payload aside : List ℕ) → List ℕ
@@ -85,14 +87,17 @@ unfoldable pub received : (config : Config) (sender signers : ℕ) (payload byte
 received config sender signers payload bytes =
     checked ((21 if not (well_formed config sender bytes)) ∷ []) and_then λ _. protocol.update config.own (quorum config) signers payload (decoded bytes)
 
+-- an answer by the name that it has in the rules
+abbrev pub answer_of : Answer.Answer → protocol.Answer
+answer_of Answer.TheVariants.Kept = kept
+answer_of Answer.TheVariants.Signed = signed
+answer_of Answer.TheVariants.Delivered = delivered
+answer_of Answer.TheVariants.Noted = noted
+
 -- the number and values of each case of what was received (R17.3), the record by its bytes
-abbrev pub received_of : Received.Received → Outcome (Answer × List ℕ)
-received_of (Received.TheVariants.Kept r) = done (kept, bytes r)
-received_of (Received.TheVariants.Signed r) = done (signed, bytes r)
-received_of (Received.TheVariants.Delivered r) = done (delivered, bytes r)
-received_of (Received.TheVariants.Noted r) = done (noted, bytes r)
-received_of (Received.TheVariants.Refused reason) = refused (number_of reason)
+abbrev pub received_of : Result Received Refusal → Outcome (protocol.Answer × List ℕ)
+received_of received = outcome_of (λ r. (answer_of r.answer, bytes r.record)) received
 
 -- an update, its record by its bytes
-unfoldable pub encoded_update : Outcome Update → Outcome (Answer × List ℕ)
+unfoldable pub encoded_update : Outcome Update → Outcome (protocol.Answer × List ℕ)
 encoded_update outcome = outcome and_then (λ result. done (result.answer, encoding result.new_record))

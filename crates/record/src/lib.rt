@@ -4,14 +4,14 @@
 // these only showing looks at a record's bytes, and only at its payload.
 #![tactic(auto)]
 
-ghost use Rattle.std.specs.Prelude.{◌≡◌, cond, false, eqb, length};
+ghost use Rattle.std.specs.Prelude.{◌≡◌, cond, false, eqb, length, Ok};
 ghost use Rattle.octets.specs.Octets.{blank, same};
 ghost use Rattle.payload.specs.Payload.{bytes as payload_bytes};
 ghost use Rattle.block.specs.Block.{bytes as block_bytes};
 ghost use Rattle.note.specs.Note.{bytes as note_bytes, decoded as decoded_note};
 ghost use Rattle.config.specs.Config.{quorum, record_size};
-ghost use Rattle.protocol.specs.Update.{update as update_of, Nothing, Empty, Held, is_delivered};
-ghost use Rattle.record.specs.Record.{bytes as bytes_in, loaded, layout, encoding, well_formed, decoded, received, received_of, encoded_update};
+ghost use Rattle.protocol.specs.Update.{update as update_of, sends, Nothing, Empty, Held, is_delivered};
+ghost use Rattle.record.specs.Record.{bytes as bytes_in, loaded, layout, encoding, well_formed, decoded, received, answer_of, received_of, encoded_update};
 ghost use Rattle.record.specs.Inner.{HasState, NoteReads, half_well_formed, held_block};
 
 use block::Block;
@@ -39,14 +39,29 @@ pub struct Record {
     pub note: Note,
 }
 
-// What a bundle does to a record, and the record afterwards.
+// What a bundle that is not refused does to a record (R8.6, R8.14).
+#[derive(Clone, Copy, PartialEq, Eq, Debug)]
+pub enum Answer {
+    Kept,
+    Signed,
+    Delivered,
+    Noted,
+}
+
+impl Answer {
+    // R8.7: whether the record's bundle is to be sent.
+    pub fn sends(self) -> bool
+        ensures { result ≡ sends (answer_of self) }
+    {
+        matches!(self, Answer::Signed | Answer::Delivered)
+    }
+}
+
+// The answer, and the record afterwards.
 #[derive(Clone, Copy)]
-pub enum Received {
-    Kept(Record),
-    Signed(Record),
-    Delivered(Record),
-    Noted(Record),
-    Refused(Refusal),
+pub struct Received {
+    pub answer: Answer,
+    pub record: Record,
 }
 
 // The record in a slice of 64 bytes; of a slice of another length, an empty one.
@@ -62,11 +77,10 @@ pub fn load(slice: &[u8]) -> Record
         };
     }
     let block = block::load(&slice[0..NOTE_AT]);
-    let payload = block.payload;
     Record {
         head: block.first,
         signers: block.second,
-        payload,
+        payload: block.payload,
         note: note::load(&slice[NOTE_AT..config::RECORD_SIZE]),
     }
 }
@@ -87,8 +101,7 @@ impl Record {
             return;
         }
         self.half().store(&mut slice[0..NOTE_AT]);
-        let note = self.note;
-        note.store(&mut slice[NOTE_AT..config::RECORD_SIZE]);
+        self.note.store(&mut slice[NOTE_AT..config::RECORD_SIZE]);
     }
 
     // Whether all 64 bytes are zero, and so the record empty (R4.5).
@@ -98,8 +111,7 @@ impl Record {
         if !self.half().is_blank() {
             return false;
         }
-        let note = self.note;
-        note.is_blank()
+        self.note.is_blank()
     }
 
     // R4.4: whether the record is well-formed, for a slot of the sender at this node. The calls refuse any
@@ -110,9 +122,7 @@ impl Record {
         if self.head == 0 {
             return self.is_blank();
         }
-        let note = self.note;
-        let payload = self.payload;
-        if !note.well_formed(config, sender, payload) {
+        if !self.note.well_formed(config, sender, self.payload) {
             return false;
         }
         self.half_well_formed(
@@ -132,11 +142,17 @@ impl Record {
 
     // R8.2 to R8.6, R8.14 and R8.16: what a bundle with these signers and this payload does to the record of a slot of the
     // sender.
-    pub fn receive(self, config: Config, sender: u8, signers: u64, payload: Payload) -> Received
+    pub fn receive(
+        self,
+        config: Config,
+        sender: u8,
+        signers: u64,
+        payload: Payload,
+    ) -> Result<Received, Refusal>
         ensures { received_of result ≡ encoded_update (received config sender signers (payload_bytes payload) (bytes_in self)) }
     {
         if !self.well_formed(config, sender) {
-            return Received::Refused(Refusal::MalformedRecord);
+            return Err(Refusal::MalformedRecord);
         }
         // Named word by word, so that the compiler passes two numbers. Given the struct, it takes the
         // record's words for the bundle's where they are equal, and then has to move them.
@@ -177,11 +193,10 @@ impl Record {
     fn half(self) -> Block
         ensures { result ≡ held_block self }
     {
-        let payload = self.payload;
         Block {
             first: self.head,
             second: self.signers,
-            payload,
+            payload: self.payload,
         }
     }
 
@@ -211,72 +226,89 @@ impl Record {
 
     // What a bundle does to a record that is well-formed. Its first word is tested by the same equalities
     // as in `half_well_formed`, so that the compiler tests it once.
-    fn update(self, config: Config, signers: u64, payload: Payload) -> Received
+    fn update(self, config: Config, signers: u64, payload: Payload) -> Result<Received, Refusal>
         requires has_state { HasState self }
         requires note_reads { NoteReads self.note }
         ensures { received_of result ≡ encoded_update (update_of config.own (quorum config) signers (payload_bytes payload) (decoded (bytes_in self))) }
     {
         let state = self.head;
         if state == DELIVERED {
-            return Received::Refused(Refusal::AlreadyDelivered);
+            return Err(Refusal::AlreadyDelivered);
         }
         if state == 0 {
             return sign(config, signers, payload);
         }
         if payload.equals(self.payload) {
-            let note = self.note;
-            return join(config, self.signers, signers, payload, note);
+            return Ok(join(config, self.signers, signers, payload, self.note));
         }
         second(config, self, signers, payload)
     }
 }
 
 // R8.2: a bundle on an empty record. We sign.
-fn sign(config: Config, signers: u64, payload: Payload) -> Received
+fn sign(config: Config, signers: u64, payload: Payload) -> Result<Received, Refusal>
     ensures { received_of result ≡ encoded_update (update_of config.own (quorum config) signers (payload_bytes payload) Empty) }
 {
     if signers::member(signers, config.own) {
-        return Received::Refused(Refusal::OwnSignatureUnknown);
+        return Err(Refusal::OwnSignatureUnknown);
     }
     let signed = signers::insert(signers, config.own);
     if config.quorum() <= signers::size(signed) {
-        return Received::Delivered(Record::delivered(signed, payload, note::nothing()));
+        return Ok(Received {
+            answer: Answer::Delivered,
+            record: Record::delivered(signed, payload, note::nothing()),
+        });
     }
-    Received::Signed(Record::held(signed, payload))
+    Ok(Received {
+        answer: Answer::Signed,
+        record: Record::held(signed, payload),
+    })
 }
 
 // R8.3: a bundle with the payload that is held, and so far signed by `known`. The signers join, and what is noted stays.
 fn join(config: Config, known: u64, signers: u64, payload: Payload, note: Note) -> Received
     requires { NoteReads note }
-    ensures { received_of result ≡ encoded_update (update_of config.own (quorum config) signers (payload_bytes payload) (Held known (payload_bytes payload) (decoded_note (note_bytes note)))) }
+    ensures { received_of (Ok result) ≡ encoded_update (update_of config.own (quorum config) signers (payload_bytes payload) (Held known (payload_bytes payload) (decoded_note (note_bytes note)))) }
 {
     let joined = signers::union(known, signers);
     if config.quorum() <= signers::size(joined) {
-        return Received::Delivered(Record::delivered(joined, payload, note));
+        return Received {
+            answer: Answer::Delivered,
+            record: Record::delivered(joined, payload, note),
+        };
     }
-    Received::Kept(Record::holding(joined, payload, note))
+    Received {
+        answer: Answer::Kept,
+        record: Record::holding(joined, payload, note),
+    }
 }
 
 // A bundle with another payload than the one held. A full quorum replaces what is held, which is noted then (R8.4, R8.16);
 // fewer signers are noted, unless a third payload is (R8.14, R8.15).
-fn second(config: Config, found: Record, signers: u64, payload: Payload) -> Received
+fn second(
+    config: Config,
+    found: Record,
+    signers: u64,
+    payload: Payload,
+) -> Result<Received, Refusal>
     requires { same (payload_bytes found.payload) (payload_bytes payload) ≡ false }
     ensures { received_of result ≡ encoded_update (update_of config.own (quorum config) signers (payload_bytes payload) (Held found.signers (payload_bytes found.payload) (decoded_note (note_bytes found.note)))) }
 {
     if signers::member(signers, config.own) {
-        return Received::Refused(Refusal::OwnSignatureUnknown);
+        return Err(Refusal::OwnSignatureUnknown);
     }
     let held = found.payload;
     if config.quorum() <= signers::size(signers) {
-        return Received::Delivered(Record::delivered(
-            signers,
-            payload,
-            note::noted(found.signers, held),
-        ));
+        return Ok(Received {
+            answer: Answer::Delivered,
+            record: Record::delivered(signers, payload, note::noted(found.signers, held)),
+        });
     }
-    let note = found.note;
-    if note.notes_other(payload) {
-        return Received::Refused(Refusal::OtherPayload);
+    if found.note.notes_other(payload) {
+        return Err(Refusal::OtherPayload);
     }
-    Received::Noted(Record::holding(found.signers, held, note.joined(signers, payload)))
+    Ok(Received {
+        answer: Answer::Noted,
+        record: Record::holding(found.signers, held, found.note.joined(signers, payload)),
+    })
 }

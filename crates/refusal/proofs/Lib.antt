@@ -1,3 +1,4 @@
 -- Laws of this crate that belong to no one function.
 pub mod Reasons
 pub mod Unique
+pub mod Passed

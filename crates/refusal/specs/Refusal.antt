@@ -1,11 +1,9 @@
 -- R5.4, for 1 to 10, and R5.5, for 20 to 28: the number of each reason, under the condition on which it applies.
 -- Assumes nothing.
-use Rattle.std.specs.Prelude.{ℕ}
+use Rattle.std.specs.Prelude.{ℕ, Result, Ok, Err}
 use Rattle.refusal.specs.Outcome.{Outcome, refused, done}
 use Rattle.refusal.specs.declared.Refusal.{Refusal}
 use Rattle.refusal.specs.declared.Refusal.TheVariants.{BadConfig, BundleLength, ReservedBytes, OtherDay, SenderRange, SeqRange, SignerRange, SenderUnsigned, PayloadLength, OutLength, RecordsLength, MalformedRecord, AlreadyDelivered, OwnSignatureUnknown, OtherPayload, NoFreeSlot, NotDelivered, TooFewSetpoints, SameNode}
-use Rattle.refusal.specs.declared.Verdict.{Verdict}
-use Rattle.refusal.specs.declared.Verdict.TheVariants.{Done, Refused}
 
 abbrev pub number_of : Refusal → ℕ
 -- the configuration is not good
@@ -47,7 +45,11 @@ number_of TooFewSetpoints = 27
 -- both own numbers are the same
 number_of SameNode = 28
 
--- the outcome that a verdict tells (R17.3): the number of its reason, or that the work is done
-abbrev pub verdict_of : Verdict → Outcome Unit
-verdict_of Done = done tt
-verdict_of (Refused r) = refused (number_of r)
+-- the outcome that a result tells (R17.3): what its value says, or the number of its reason
+abbrev pub outcome_of : {A B : Type 0} → (A → B) → Result A Refusal → Outcome B
+outcome_of says (Ok value) = done (says value)
+outcome_of says (Err reason) = refused (number_of reason)
+
+-- of a call that has nothing to tell where it did its work
+abbrev pub verdict_of : Result Unit Refusal → Outcome Unit
+verdict_of verdict = outcome_of (λ _. tt) verdict

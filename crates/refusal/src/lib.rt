@@ -4,61 +4,36 @@
 ghost use Rattle.std.specs.Prelude.{◌≡◌};
 ghost use Rattle.refusal.specs.Refusal.{number_of};
 
-#[derive(Clone, Copy)]
+#[derive(Clone, Copy, PartialEq, Eq, Debug)]
 pub enum Refusal {
     // from what the caller gives: R5.4
-    BadConfig,
-    BundleLength,
-    ReservedBytes,
-    OtherDay,
-    SenderRange,
-    SeqRange,
-    SignerRange,
-    SenderUnsigned,
-    PayloadLength,
-    OutLength,
+    BadConfig = 1,
+    BundleLength = 2,
+    ReservedBytes = 3,
+    OtherDay = 4,
+    SenderRange = 5,
+    SeqRange = 6,
+    SignerRange = 7,
+    SenderUnsigned = 8,
+    PayloadLength = 9,
+    OutLength = 10,
     // from the node's records: R5.5
-    RecordsLength,
-    MalformedRecord,
-    AlreadyDelivered,
-    OwnSignatureUnknown,
-    OtherPayload,
-    NoFreeSlot,
-    NotDelivered,
-    TooFewSetpoints,
-    SameNode,
+    RecordsLength = 20,
+    MalformedRecord = 21,
+    AlreadyDelivered = 22,
+    OwnSignatureUnknown = 23,
+    OtherPayload = 24,
+    NoFreeSlot = 25,
+    NotDelivered = 26,
+    TooFewSetpoints = 27,
+    SameNode = 28,
 }
 
-// The answer of a call that has nothing to tell where it did its work.
-#[derive(Clone, Copy)]
-pub enum Verdict {
-    Done,
-    Refused(Refusal),
-}
+impl From<Refusal> for u32 {
+    ghost from_gives = { λ reason number. number ≡ number_of reason };
 
-// The number of the reason.
-pub fn number(reason: Refusal) -> u32
-    ensures { result ≡ number_of reason }
-{
-    match reason {
-        Refusal::BadConfig => 1,
-        Refusal::BundleLength => 2,
-        Refusal::ReservedBytes => 3,
-        Refusal::OtherDay => 4,
-        Refusal::SenderRange => 5,
-        Refusal::SeqRange => 6,
-        Refusal::SignerRange => 7,
-        Refusal::SenderUnsigned => 8,
-        Refusal::PayloadLength => 9,
-        Refusal::OutLength => 10,
-        Refusal::RecordsLength => 20,
-        Refusal::MalformedRecord => 21,
-        Refusal::AlreadyDelivered => 22,
-        Refusal::OwnSignatureUnknown => 23,
-        Refusal::OtherPayload => 24,
-        Refusal::NoFreeSlot => 25,
-        Refusal::NotDelivered => 26,
-        Refusal::TooFewSetpoints => 27,
-        Refusal::SameNode => 28,
+    // The number of the reason.
+    fn from(reason: Refusal) -> u32 {
+        reason as u32
     }
 }

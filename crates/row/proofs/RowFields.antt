@@ -3,21 +3,23 @@
 use mathlib.Core.Path.{◌≡◌, refl, sym, ap, ◌∙◌}
 use mathlib.Core.Bool.{Bool, true, false, cond, and-eq-true_iff}
 use mathlib.Core.List.{List, [], ◌∷◌, ◌++◌}
-use Prim.Native.Nat.{ℕ, ◌+◌, ◌≤◌, ◌<◌}
+use Prim.Native.Nat.{ℕ, ◌-◌, ◌<◌}
 use native.Mathlib.Omega.{arith}
 use lib.Dec.{ltb, leb, lit<}
 use lib.ListN.{length, get_or, take, drop, length-drop, take-append-drop}
-use lib.Seq.{drop-drop, get_or-drop, split_at}
+use lib.Seq.{drop-cons}
 use borrow.Author.Tests.{ltb-true, leb-false, leb-true}
+use Rattle.std.specs.Prelude.{Option, Some, None}
 use Rattle.octets.specs.Octets.{same}
 use Rattle.octets.proofs.Same.{same-says}
 use Rattle.text.specs.Text.{ascii, space, before, first_field, rest_after_field, after_fields, field, value, plain_up_to, hex}
 use Rattle.text.proofs.Fields.{before-le, before_here, join, cut-first, cut-rest, first-length, rest-none, hex-none}
 use Rattle.text.proofs.HexWords.{hex-length}
-use Rattle.text.proofs.FieldPositions.{Starts}
+use Rattle.text.proofs.FieldPositions.{Starts, part_end}
 use Rattle.payload.specs.declared.Payload.{Payload}
+use Rattle.row.specs.declared.Step.{Step}
+use Rattle.row.specs.declared.StepRow.{StepRow}
 use Rattle.row.specs.declared.Step.TheVariants.{Broadcast, Receive}
-use Rattle.row.specs.declared.StepRow.TheVariants.{Unread, At}
 use Rattle.row.specs.Row.{absent, node, payload_digits, payload_of_digits, in_system, broadcast_fields, broadcast_row, receive_fields, receive_row}
 use Rattle.row.proofs.Choices.{chosen, refused}
 
@@ -116,96 +118,104 @@ dashes-bytes n line f =
     let first = dash-first (after_fields 2 line) f.no-sender (omega (arith, ap length second)) in
     first ∙ ap (λ (ys : List ℕ). 45 ∷ (32 ∷ ys)) (second ∙ ap (λ (ys : List ℕ). 45 ∷ (32 ∷ ys)) third)
 
-pub record DashesThere (line : List ℕ) (at : ℕ) : Type 0 where
-  pub long : at + 6 ≤ length line
-  pub dashed : same (take 6 (drop at line)) dashes ≡ true
-
-pub dashes-there : (n : ℕ) (line : List ℕ) (at : ℕ) → Starts 2 at line → BroadcastFields n line → DashesThere line at
+pub dashes-there : (n : ℕ) (line : List ℕ) → BroadcastFields n line → same (take 6 (after_fields 2 line)) dashes ≡ true
 unfolding ascii same
-dashes-there n line at start f =
-    let bytes = sym start.here ∙ dashes-bytes n line f in
-    let size = length-drop at line in
-    record { long = omega (arith, ap length bytes); dashed = rw bytes }
+dashes-there n line f = rw (dashes-bytes n line f)
+
+pub dashes-some : (n : ℕ) (line : List ℕ) → BroadcastFields n line → 0 < length (after_fields 2 line)
+unfolding ascii
+dashes-some n line f = omega (arith, ap length (dashes-bytes n line f))
 
 -- and where the bytes are, the fields are three dashes and more
-pub record DashesRead (line : List ℕ) (at : ℕ) : Type 0 where
+pub record DashesRead (line : List ℕ) : Type 0 where
   pub no-sender : absent (field 2 line) ≡ true
   pub no-seq : absent (field 3 line) ≡ true
   pub no-signers : absent (field 4 line) ≡ true
-  pub payload : payload_digits line ≡ drop (at + 6) line
+  pub payload : payload_digits line ≡ drop 6 (after_fields 2 line)
 
-dashes-split : (line xs : List ℕ) (at : ℕ) → after_fields 2 line ≡ dashes ++ xs → xs ≡ drop (at + 6) line → DashesRead line at
+dashes-split : (line xs : List ℕ) → after_fields 2 line ≡ dashes ++ xs → DashesRead line
 unfolding after_fields payload_digits ascii absent same first_field rest_after_field before
-dashes-split line xs at here tail = record { no-sender = rw here; no-seq = rw here; no-signers = rw here; payload = rw here tail }
+dashes-split line xs here = record { no-sender = rw here; no-seq = rw here; no-signers = rw here; payload = rw here }
 
-pub dashes-read : (line : List ℕ) (at : ℕ) → Starts 2 at line → same (take 6 (drop at line)) dashes ≡ true → DashesRead line at
-dashes-read line at start e =
-    dashes-split line (drop 6 (drop at line)) at
-    (start.here
-    ∙ sym (take-append-drop 6 (drop at line))
-    ∙ ap (λ (ys : List ℕ). ys ++ drop 6 (drop at line)) (same-says (take 6 (drop at line)) dashes e))
-    (drop-drop 6 at line)
+pub dashes-read : (line : List ℕ) → same (take 6 (after_fields 2 line)) dashes ≡ true → DashesRead line
+dashes-read line e =
+    let xs : List ℕ = after_fields 2 line in
+    dashes-split line (drop 6 xs)
+    (sym (take-append-drop 6 xs) ∙ ap (λ (ys : List ℕ). ys ++ drop 6 xs) (same-says (take 6 xs) dashes e))
 
 -- ---- signers and a payload
 
 -- where the fields are 16 digits and more, the bytes are 16 digits and a space,
-pub record SignersThere (line : List ℕ) (at : ℕ) : Type 0 where
-  pub long : at + 17 ≤ length line
-  pub spaced : get_or line (at + 16) 0 ≡ space
-  pub digits : hex 16 (take 16 (drop at line)) ≡ true
+pub record SignersThere (line : List ℕ) : Type 0 where
+  pub long : 16 < length (after_fields 4 line)
+  pub digits : hex 16 (take 16 (after_fields 4 line)) ≡ true
+  pub spaced : same (take 1 (drop 16 (after_fields 4 line))) (space ∷ []) ≡ true
 
-pub signers-there : (n : ℕ) (line : List ℕ) (at : ℕ) → Starts 4 at line → ReceiveFields n line → SignersThere line at
-unfolding payload_digits after_fields first_field
-signers-there n line at start f =
-    let xs : List ℕ = drop at line in
-    let signers : hex 16 (first_field xs) ≡ true = rw start.here at f.signers in
-    let payload : hex 32 (rest_after_field xs) ≡ true = rw start.here at f.payload in
-    let some : 0 < length (rest_after_field xs) = omega (arith, hex-length 32 (rest_after_field xs) payload) in
-    let ends : before space xs ≡ 16 = sym (first-length xs) ∙ hex-length 16 (first_field xs) signers in
-    let inside = space-inside xs some in
-    let size = length-drop at line in
+pub signers-there : (n : ℕ) (line : List ℕ) → ReceiveFields n line → SignersThere line
+unfolding payload_digits after_fields first_field same
+signers-there n line f =
+    let xs : List ℕ = after_fields 4 line in
+    let some : 0 < length (rest_after_field xs) = omega (arith, hex-length 32 (rest_after_field xs) f.payload) in
+    let ends : before space xs ≡ 16 = sym (first-length xs) ∙ hex-length 16 (first_field xs) f.signers in
+    let long : 16 < length xs = omega (arith, space-inside xs some) in
+    let here : get_or xs 16 0 ≡ space = ap (λ (k : ℕ). get_or xs k 0) (sym ends) ∙ before_here space xs (space-inside xs some) in
     record {
-      long = omega arith;
-      spaced = sym (get_or-drop at line 16 0) ∙ ap (λ (k : ℕ). get_or xs k 0) (sym ends) ∙ before_here space xs inside;
-      digits = ap (λ (k : ℕ). hex 16 (take k xs)) (sym ends) ∙ signers;
+      long = long;
+      digits = ap (λ (k : ℕ). hex 16 (take k xs)) (sym ends) ∙ f.signers;
+      spaced = rw (drop-cons xs 16 0 long, here);
     }
 
 -- and where the bytes are, the fields are these
-pub record SignersRead (line : List ℕ) (at : ℕ) : Type 0 where
-  pub signers : field 4 line ≡ take 16 (drop at line)
-  pub payload : payload_digits line ≡ drop (at + 17) line
+pub record SignersRead (line : List ℕ) : Type 0 where
+  pub signers : field 4 line ≡ take 16 (after_fields 4 line)
+  pub payload : payload_digits line ≡ drop 1 (drop 16 (after_fields 4 line))
 
-pub signers-read : (line : List ℕ) (at : ℕ) → Starts 4 at line → SignersThere line at → SignersRead line at
+pub signers-read : (line : List ℕ) → hex 16 (take 16 (after_fields 4 line)) ≡ true → same (take 1 (drop 16 (after_fields 4 line))) (space ∷ []) ≡ true
+    → SignersRead line
 unfolding payload_digits after_fields
-signers-read line at start there =
-    let xs : List ℕ = drop at line in
-    let size = length-drop at line in
-    let inside : 16 < length xs = omega (arith, there.long) in
-    let spaced : get_or xs 16 0 ≡ space = get_or-drop at line 16 0 ∙ there.spaced in
-    let split : xs ≡ take 16 xs ++ (space ∷ drop 17 xs) = split_at xs 16 0 inside ∙ ap (λ (b : ℕ). take 16 xs ++ (b ∷ drop 17 xs)) spaced in
-    let none = hex-none space 16 (take 16 xs) (lit< tt) there.digits in
+signers-read line digits spaced =
+    let xs : List ℕ = after_fields 4 line in
+    let ys : List ℕ = drop 16 xs in
+    let rest : ys ≡ space ∷ drop 1 ys = sym (take-append-drop 1 ys) ∙ ap (λ (zs : List ℕ). zs ++ drop 1 ys) (same-says (take 1 ys) (space ∷ []) spaced) in
+    let split : xs ≡ take 16 xs ++ (space ∷ drop 1 ys) = sym (take-append-drop 16 xs) ∙ ap (λ (zs : List ℕ). take 16 xs ++ zs) rest in
+    let none = hex-none space 16 (take 16 xs) (lit< tt) digits in
     record {
-      signers = ap first_field (start.here ∙ split) ∙ cut-first (take 16 xs) (drop 17 xs) none;
-      payload = ap rest_after_field (start.here ∙ split) ∙ cut-rest (take 16 xs) (drop 17 xs) none ∙ drop-drop 17 at line;
+      signers = ap first_field split ∙ cut-first (take 16 xs) (drop 1 ys) none;
+      payload = ap rest_after_field split ∙ cut-rest (take 16 xs) (drop 1 ys) none;
     }
+
+-- ---- fields by the index at which they start
+
+module _ {k at : ℕ} {line : List ℕ} (start : Starts k at line) where
+  -- where there is a byte of them, they start within the line,
+  pub starts-inside : 0 < length (after_fields k line) → at < length line
+  starts-inside some = omega (arith, ap length start.here, length-drop at line)
+
+  -- and they are the part of the line from there on
+  pub starts-part : (part : List ℕ) → part ≡ take (length line - at) (drop at line) → part ≡ after_fields k line
+  starts-part part is = is ∙ part_end at line ∙ sym start.here
 
 -- ---- the row of such fields
 
+-- a row that is read
+abbrev pub row_of : (node : ℕ) (step : Step) → Option StepRow
+row_of node step = Some (record { node = node; step = step })
+
 module _ (n : ℕ) (line : List ℕ) where
   pub broadcast-row : {v : ℕ} {payload : Payload} → value 10 0 (field 1 line) ≡ v → payload_of_digits (payload_digits line) ≡ payload → BroadcastFields n line
-      → At v (Broadcast payload) ≡ cond (broadcast_fields n line) (broadcast_row line) Unread
+      → row_of v (Broadcast payload) ≡ cond (broadcast_fields n line) (broadcast_row line) None
   unfolding broadcast_row node
-  broadcast-row at payload f = rw (← at, ← payload) (chosen (broadcast_fields n line) (broadcast_row line) Unread (fields-broadcast n line f))
+  broadcast-row at payload f = rw (← at, ← payload) (chosen (broadcast_fields n line) (broadcast_row line) None (fields-broadcast n line f))
 
-  pub broadcast-refused : (BroadcastFields n line → ⊥) → Unread ≡ cond (broadcast_fields n line) (broadcast_row line) Unread
-  broadcast-refused not = refused (broadcast_fields n line) (broadcast_row line) Unread (λ e. not (broadcast-fields n line e))
+  pub broadcast-refused : (BroadcastFields n line → ⊥) → None ≡ cond (broadcast_fields n line) (broadcast_row line) None
+  broadcast-refused not = refused (broadcast_fields n line) (broadcast_row line) None (λ e. not (broadcast-fields n line e))
 
   pub receive-row : {v sender seq signers : ℕ} {payload : Payload} → value 10 0 (field 1 line) ≡ v → value 10 0 (field 2 line) ≡ sender
       → value 10 0 (field 3 line) ≡ seq → value 16 0 (field 4 line) ≡ signers → payload_of_digits (payload_digits line) ≡ payload → ReceiveFields n line
-      → At v (Receive sender seq signers payload) ≡ cond (receive_fields n line) (receive_row line) Unread
+      → row_of v (Receive sender seq signers payload) ≡ cond (receive_fields n line) (receive_row line) None
   unfolding receive_row node
   receive-row at sender seq signers payload f =
-      rw (← at, ← sender, ← seq, ← signers, ← payload) (chosen (receive_fields n line) (receive_row line) Unread (fields-receive n line f))
+      rw (← at, ← sender, ← seq, ← signers, ← payload) (chosen (receive_fields n line) (receive_row line) None (fields-receive n line f))
 
-  pub receive-refused : (ReceiveFields n line → ⊥) → Unread ≡ cond (receive_fields n line) (receive_row line) Unread
-  receive-refused not = refused (receive_fields n line) (receive_row line) Unread (λ e. not (receive-fields n line e))
+  pub receive-refused : (ReceiveFields n line → ⊥) → None ≡ cond (receive_fields n line) (receive_row line) None
+  receive-refused not = refused (receive_fields n line) (receive_row line) None (λ e. not (receive-fields n line e))

@@ -10,33 +10,33 @@ use lib.Dec.{leb}
 use lib.ListN.{length, get_or, take, drop, drop_of_length-le}
 use lib.Seq.{get_or-take}
 use borrow.Author.Tests.{leb-false, lt-leb, ne_eqb, eq-eqb}
+use Rattle.std.specs.Prelude.{Option, None}
 use Rattle.octets.specs.Octets.{same}
 use Rattle.octets.proofs.Same.{same-says}
 use Rattle.text.specs.Text.{ascii, space, before, first_field, rest_after_field, after_fields, plain_up_to}
 use Rattle.text.proofs.Fields.{before_here, first-length}
 use Rattle.text.proofs.FieldPositions.{empty-plain}
 use Rattle.row.specs.declared.StepRow.{StepRow}
-use Rattle.row.specs.declared.StepRow.TheVariants.{Unread}
 use Rattle.row.specs.Row.{act, in_system, broadcast_fields, broadcast_row, receive_fields, receive_row, is_broadcast, is_receive, row_in}
 use Rattle.row.proofs.LineLengths.{Line, broadcast-line, receive-line}
 use Rattle.row.proofs.RowFields.{node-field, broadcast-fields, receive-fields}
 
 module _ (n : ℕ) (line : List ℕ) where
   -- a row over 120 bytes is unread
-  pub row-long : 120 < length line → row_in n line ≡ Unread
+  pub row-long : 120 < length line → row_in n line ≡ None
   unfolding row_in
   row-long h = rw (lt-leb (length line) 120 h)
 
   -- and would be without that test
-  pub row-untested : row_in n line ≡ cond (is_broadcast n line) (broadcast_row line) (cond (is_receive n line) (receive_row line) Unread)
+  pub row-untested : row_in n line ≡ cond (is_broadcast n line) (broadcast_row line) (cond (is_receive n line) (receive_row line) None)
   unfolding row_in
   row-untested = go (broadcast_row line) (receive_row line) (leb (length line) 120) refl (is_broadcast n line) refl (is_receive n line) refl
     where
       long : leb (length line) 120 ≡ false → Line 63 line → ⊥
       long h l = omega (arith, leb-false (length line) 120 h, l.short)
 
-      go : (x y : StepRow) (short : Bool) → leb (length line) 120 ≡ short → (a : Bool) → is_broadcast n line ≡ a → (b : Bool) → is_receive n line ≡ b
-          → cond short (cond a x (cond b y Unread)) Unread ≡ cond a x (cond b y Unread)
+      go : (x y : Option StepRow) (short : Bool) → leb (length line) 120 ≡ short → (a : Bool) → is_broadcast n line ≡ a → (b : Bool) → is_receive n line ≡ b
+          → cond short (cond a x (cond b y None)) None ≡ cond a x (cond b y None)
       go x y true h a p b q = refl
       go x y false h true p b q = absurd (long h (broadcast-line n line p))
       go x y false h false p true q = absurd (long h (receive-line n line q))
@@ -44,33 +44,33 @@ module _ (n : ℕ) (line : List ℕ) where
 
   -- ---- the act
 
-  row-unread : (is_broadcast n line ≡ true → ⊥) → (is_receive n line ≡ true → ⊥) → Unread ≡ row_in n line
+  row-unread : (is_broadcast n line ≡ true → ⊥) → (is_receive n line ≡ true → ⊥) → None ≡ row_in n line
   row-unread a b = go (is_broadcast n line) a (is_receive n line) b (broadcast_row line) (receive_row line) ∙ sym row-untested
     where
-      go : (a : Bool) → (a ≡ true → ⊥) → (b : Bool) → (b ≡ true → ⊥) → (x y : StepRow) → Unread ≡ cond a x (cond b y Unread)
+      go : (a : Bool) → (a ≡ true → ⊥) → (b : Bool) → (b ≡ true → ⊥) → (x y : Option StepRow) → None ≡ cond a x (cond b y None)
       go true a b g x y = absurd (a refl)
       go false a true g x y = absurd (g refl)
       go false a false g x y = refl
 
   -- with neither act the row is unread, and so it is without a node of the system;
-  pub row-no-act : (same (act line) (ascii "A") ≡ true → ⊥) → (same (act line) (ascii "B") ≡ true → ⊥) → Unread ≡ row_in n line
+  pub row-no-act : (same (act line) (ascii "A") ≡ true → ⊥) → (same (act line) (ascii "B") ≡ true → ⊥) → None ≡ row_in n line
   unfolding is_broadcast is_receive
   row-no-act a b =
       row-unread (λ e. a ((and-eq-true_iff (same (act line) (ascii "A")) (broadcast_fields n line)).0 e).0)
       (λ e. b ((and-eq-true_iff (same (act line) (ascii "B")) (receive_fields n line)).0 e).0)
 
-  pub row-no-node : (in_system n line ≡ true → ⊥) → Unread ≡ row_in n line
+  pub row-no-node : (in_system n line ≡ true → ⊥) → None ≡ row_in n line
   unfolding is_broadcast is_receive
   row-no-node not =
       row-unread (λ e. not (broadcast-fields n line ((and-eq-true_iff (same (act line) (ascii "A")) (broadcast_fields n line)).0 e).1).at-node)
       (λ e. not (receive-fields n line ((and-eq-true_iff (same (act line) (ascii "B")) (receive_fields n line)).0 e).1).at-node)
 
   -- with act A it is what the fields of a broadcast give, and with act B those of a bundle
-  pub row-broadcast : act line ≡ ascii "A" → row_in n line ≡ cond (broadcast_fields n line) (broadcast_row line) Unread
+  pub row-broadcast : act line ≡ ascii "A" → row_in n line ≡ cond (broadcast_fields n line) (broadcast_row line) None
   unfolding is_broadcast is_receive ascii same
   row-broadcast letter = row-untested ∙ rw letter
 
-  pub row-receive : act line ≡ ascii "B" → row_in n line ≡ cond (receive_fields n line) (receive_row line) Unread
+  pub row-receive : act line ≡ ascii "B" → row_in n line ≡ cond (receive_fields n line) (receive_row line) None
   unfolding is_broadcast is_receive ascii same
   row-receive letter = row-untested ∙ rw letter
 
@@ -112,3 +112,11 @@ module _ (c : ℕ) (line : List ℕ) (long : 2 ≤ length line) where
         ap (λ (k : ℕ). take k line) one ∙ one_byte line long first,
         ap (λ (k : ℕ). drop (suc k) line) one,
       )
+
+-- so a line that starts with neither letter and a space is unread
+pub row-no-letter : (n : ℕ) (line : List ℕ) → 2 ≤ length line → (get_or line 0 0 ≡ 65 → get_or line 1 0 ≡ space → ⊥)
+    → (get_or line 0 0 ≡ 66 → get_or line 1 0 ≡ space → ⊥) → None ≡ row_in n line
+unfolding ascii
+row-no-letter n line long a b =
+    row-no-act n line (λ e. let (first, second) = letter-there 65 line long e in a first second)
+    (λ e. let (first, second) = letter-there 66 line long e in b first second)

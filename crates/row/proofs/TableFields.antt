@@ -1,18 +1,19 @@
 -- The table row by its fields: each is a plain number, the last one ends the line, and the configuration is good.
 -- Assumes nothing.
 use mathlib.Core.Path.{◌≡◌, refl, sym, ap, ◌∙◌}
-use mathlib.Core.Bool.{Bool, true, false, and-eq-true_iff, true≢false}
+use mathlib.Core.Bool.{Bool, true, false, cond, and-eq-true_iff, true≢false}
 use mathlib.Core.List.{List, []}
 use Prim.Native.Nat.{ℕ, ◌-◌, ◌^◌, ◌<◌}
 use native.Mathlib.Omega.{arith}
+use Rattle.std.specs.Bool.{then_some}
+use Rattle.std.specs.Prelude.{Some, None}
 use Rattle.config.specs.declared.Config.{Config}
 use Rattle.config.specs.Config.{good}
 use Rattle.octets.specs.Octets.{same}
 use Rattle.text.specs.Text.{ascii, field, after_fields, plain_number, plain_up_to}
 use Rattle.text.proofs.FieldPositions.{plain-whole, plain-within}
-use Rattle.row.specs.declared.ConfigRow.TheVariants.{Good, Bad}
 use Rattle.row.specs.Row.{table_names, config_in, is_table, table_in, FiveAreAsked}
-use Rattle.row.proofs.Choices.{chosen, refused}
+use Rattle.row.proofs.Choices.{refused}
 
 -- no digits are no number
 no-digits : plain_up_to (2 ^ 32 - 1) [] ≡ false
@@ -54,22 +55,20 @@ module _ (line : List ℕ) where
       omega (arith, plain-within (2 ^ 32 - 1) (field 3 line) f.day)
 
   -- so a line with other fields is none,
-  pub table-refused : (TableFields line → ⊥) → Bad ≡ table_in line
+  pub table-refused : (TableFields line → ⊥) → None ≡ table_in line
   unfolding table_in
-  table-refused not = refused (is_table line) _ Bad (λ e. not (table-fields e))
+  table-refused not = refused (is_table line) _ None (λ e. not (table-fields e))
 
   -- and one with these is, if the configuration that they give is good
-  module _ (w : Config) (g : Bool) (tested : g ≡ good w) (gives : config_in line ≡ w) where
-    pub table-read : g ≡ true → TableFields line → Good w ≡ table_in line
-    unfolding table_in is_table
-    table-read fine f =
-        ap Good (sym gives)
-        ∙ chosen (is_table line) (Good (config_in line)) Bad
-        (rw (f.nodes, f.faults, f.losses, f.day, ap (plain_up_to (2 ^ 32 - 1)) (sym f.last) ∙ f.quorum) (ap good gives ∙ sym tested ∙ fine))
-
-    pub table-not-good : g ≡ false → Bad ≡ table_in line
-    unfolding table_in
-    table-not-good bad = refused (is_table line) _ Bad (λ e. true≢false (sym (table-good e) ∙ ap good gives ∙ sym tested ∙ bad))
+  pub table-read : (w : Config) → config_in line ≡ w → TableFields line → then_some (good w) w ≡ table_in line
+  unfolding table_in is_table
+  table-read w gives f =
+      given (good w)
+      ∙ rw (f.nodes, f.faults, f.losses, f.day, ap (plain_up_to (2 ^ 32 - 1)) (sym f.last) ∙ f.quorum, gives)
+    where
+      given : (b : Bool) → then_some b w ≡ cond b (Some w) None
+      given true = refl
+      given false = refl
 
 -- fewer than five fields leave nothing for the last number
 pub five-are-asked : FiveAreAsked

@@ -1,6 +1,6 @@
 -- The lines of a run file: R15.5 to R15.10 of docs/RULES.md. A unit is a node here, the number of a slot is `seq` and a body is a payload.
 -- Assumes nothing.
-use Rattle.std.specs.Prelude.{◌≡◌, Bool, false, cond, ◌&&◌, List, [], ℕ, ◌-◌, ◌^◌, leb, ltb, length, take, drop}
+use Rattle.std.specs.Prelude.{◌≡◌, Bool, false, cond, ◌&&◌, List, [], ℕ, ◌-◌, ◌^◌, leb, ltb, length, take, drop, Option, Some, None}
 use Rattle.octets.specs.Octets.{same}
 use Rattle.payload.specs.declared.Payload.{Payload}
 use Rattle.config.specs.declared.Config.{Config}
@@ -8,9 +8,6 @@ use Rattle.config.specs.Config.{config_of, good}
 use Rattle.text.specs.Text.{ascii, field, after_fields, value, plain_up_to, hex}
 use Rattle.row.specs.declared.Step.TheVariants.{Broadcast, Receive}
 use Rattle.row.specs.declared.StepRow.{StepRow}
-use Rattle.row.specs.declared.StepRow.TheVariants.{Unread, At}
-use Rattle.row.specs.declared.ConfigRow.{ConfigRow}
-use Rattle.row.specs.declared.ConfigRow.TheVariants.{Good, Bad}
 
 -- R15.5: the two lines of names
 unfoldable pub table_names : List ℕ
@@ -43,8 +40,8 @@ is_table line =
     && (plain_up_to (2 ^ 32 - 1) (after_fields 4 line)
     && good (config_in line)))))
 
-unfoldable pub table_in : (line : List ℕ) → ConfigRow
-table_in line = cond (is_table line) (Good (config_in line)) Bad
+unfoldable pub table_in : (line : List ℕ) → Option Config
+table_in line = cond (is_table line) (Some (config_in line)) None
 
 -- R15.7: names without the fifth are not those of a table, and a row with fewer than five fields is none
 abbrev pub FiveAreAsked : Type 0
@@ -72,12 +69,15 @@ module _ (line : List ℕ) where
   payload_digits = after_fields 5 line
 
   -- the row of each act
-  unfoldable pub broadcast_row : StepRow
-  broadcast_row = At node (Broadcast (payload_of_digits payload_digits))
+  unfoldable pub broadcast_row : Option StepRow
+  broadcast_row = Some (record { node = node; step = Broadcast (payload_of_digits payload_digits) })
 
-  unfoldable pub receive_row : StepRow
+  unfoldable pub receive_row : Option StepRow
   receive_row =
-      At node (Receive (value 10 0 (field 2 line)) (value 10 0 (field 3 line)) (value 16 0 (field 4 line)) (payload_of_digits payload_digits))
+      Some (record {
+        node = node;
+        step = Receive (value 10 0 (field 2 line)) (value 10 0 (field 3 line)) (value 16 0 (field 4 line)) (payload_of_digits payload_digits);
+      })
 
 module _ (n : ℕ) (line : List ℕ) where
   -- R15.10: the row is at one of the n nodes
@@ -110,8 +110,8 @@ module _ (n : ℕ) (line : List ℕ) where
   is_receive = same (act line) (ascii "B") && receive_fields
 
   -- R15.10: the row that a line gives, if it has at most 120 bytes and is of one act or the other; any other line is unread
-  unfoldable pub row_in : StepRow
+  unfoldable pub row_in : Option StepRow
   row_in =
       cond (leb (length line) 120)
-      (cond is_broadcast (broadcast_row line) (cond is_receive (receive_row line) Unread))
-      Unread
+      (cond is_broadcast (broadcast_row line) (cond is_receive (receive_row line) None))
+      None

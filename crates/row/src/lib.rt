@@ -1,18 +1,16 @@
 // The lines of a run file, read: its two names lines, the table row and the step rows.
 //
-// Every function is defined for all bytes and lengths. What is not of the format has a case of its own in
-// the answer.
+// Every function is defined for all bytes and lengths. What is not of the format is `None`.
 #![tactic(auto)]
 
 ghost use Rattle.std.specs.Prelude.{◌≡◌, cond, drop};
 ghost use Rattle.octets.specs.Octets.{same};
-ghost use Rattle.text.specs.Text.{after_fields};
+ghost use Rattle.text.specs.Text.{after_fields, number_at};
 ghost use Rattle.row.specs.Row.{table_names, step_names, table_in, row_in, broadcast_fields, broadcast_row, receive_fields, receive_row};
 ghost use Rattle.row.specs.RowParts.{node_in, hex_payload_in};
 
 use config::Config;
 use payload::Payload;
-use text::{Number, Word};
 
 // What happens at a node (R15.8): act A broadcasts a payload, act B receives a bundle.
 #[derive(Clone, Copy)]
@@ -28,28 +26,15 @@ pub enum Step {
     },
 }
 
-// A step row.
+// A step row that is read: what happens, and the node at which it does.
 #[derive(Clone, Copy)]
-pub enum StepRow {
-    Unread,
-    At { node: u8, step: Step },
+pub struct StepRow {
+    pub node: u8,
+    pub step: Step,
 }
 
-// The table row (R15.6, but for the bound of 8 nodes): the configuration that it gives, with own number 0.
-#[derive(Clone, Copy)]
-pub enum ConfigRow {
-    Good(Config),
-    Bad,
-}
-
-// 32 hexadecimal digits.
-#[derive(Clone, Copy)]
-enum HexPayload {
-    Hex(Payload),
-    NotHex,
-}
-
-// Whether the line has the names of the table, to the byte (R15.5).
+// Whether the line has the names of the table, to the byte (R15.5). Each of the two has its line as fixed bytes, as
+// R17.9 asks; with the line as a parameter it would be `text::same` itself.
 pub fn is_table_names(line: &[u8]) -> bool
     ensures { result ≡ same line.now table_names }
 {
@@ -63,145 +48,104 @@ pub fn is_step_names(line: &[u8]) -> bool
     text::same(line, b"act unit sender number signers body")
 }
 
-// The configuration that a table row gives, if it is one.
-pub fn read_table(line: &[u8]) -> ConfigRow
+// The configuration that a table row gives, with own number 0 (R15.6, but for the bound of 8 nodes).
+pub fn read_table(line: &[u8]) -> Option<Config>
     ensures { result ≡ table_in line.now }
 {
-    let Number::Plain(n, faults_at) = text::number_at(255, line, 0) else {
-        return ConfigRow::Bad;
-    };
-    let Number::Plain(t, losses_at) = text::number_at(255, line, faults_at) else {
-        return ConfigRow::Bad;
-    };
-    let Number::Plain(d, day_at) = text::number_at(255, line, losses_at) else {
-        return ConfigRow::Bad;
-    };
-    let Number::Plain(day, quorum_at) = text::number_at(0xffff_ffff, line, day_at) else {
-        return ConfigRow::Bad;
-    };
-    let Number::Plain(quorum, end) = text::number_at(0xffff_ffff, line, quorum_at) else {
-        return ConfigRow::Bad;
-    };
+    let (n, faults_at) = byte_at(line, 0)?;
+    let (t, losses_at) = byte_at(line, faults_at)?;
+    let (d, day_at) = byte_at(line, losses_at)?;
+    let (day, quorum_at) = text::number_at(u32::MAX, line, day_at)?;
+    let (quorum, end) = text::number_at(u32::MAX, line, quorum_at)?;
     if end != line.len() + 1 {
-        return ConfigRow::Bad;
+        return None;
     }
-    let config = Config::new(n as u8, t as u8, d as u8, 0, day, quorum);
-    if !config.good() {
-        return ConfigRow::Bad;
-    }
-    ConfigRow::Good(config)
+    let config = Config::new(n, t, d, 0, day, quorum);
+    config.good().then_some(config)
 }
 
-// The step that a row gives in a system of n nodes, or that it is unread (R15.8 to R15.10). The act is looked
-// at first: after tests of the other fields the compiler takes the steps for rare, and passes them on by way
-// of memory.
-pub fn read_row(n: u8, line: &[u8]) -> StepRow
+// The step that a row gives in a system of n nodes, if it is read (R15.8 to R15.10). The act is looked at
+// first: after tests of the other fields the compiler takes the steps for rare, and passes them on by way of
+// memory.
+pub fn read_row(n: u8, line: &[u8]) -> Option<StepRow>
     ensures { result ≡ row_in n line.now }
 {
-    if line.len() < 2 {
-        return StepRow::Unread;
+    match line {
+        [b'B', b' ', ..] => ActLine { n, line }.receive(),
+        [b'A', b' ', ..] => ActLine { n, line }.broadcast(),
+        _ => None,
     }
-    if line[1] != b' ' {
-        return StepRow::Unread;
-    }
-    let act = line[0];
-    if act == b'B' {
-        return receive(n, line);
-    }
-    if act == b'A' {
-        return broadcast(n, line);
-    }
-    StepRow::Unread
 }
 
-// A row of act A, from the fields after its act: the node, three dashes and the payload.
-fn broadcast(n: u8, line: &[u8]) -> StepRow
-    requires { after_fields 1 line.now ≡ drop 2 line.now }
-    ensures { result ≡ cond (broadcast_fields n line.now) (broadcast_row line.now) StepRow.Unread }
+// A line whose first field is an act of one letter, in a system of n nodes. The fields after the act start
+// at index 2.
+#[derive(Clone, Copy)]
+struct ActLine<'a> {
+    n: u8,
+    line: &'a [u8],
+    ghost after_act: { after_fields 1 line.now ≡ drop 2 line.now },
+}
+
+impl ActLine<'_> {
+    // A row of act A: after its node three dashes and the payload.
+    fn broadcast(self) -> Option<StepRow>
+        ensures { result ≡ cond (broadcast_fields self.entry.n self.entry.line.now) (broadcast_row self.entry.line.now) None }
+    {
+        let (node, at) = self.node()?;
+        let digits = self.line.get(at..)?.strip_prefix(b"- - - ")?;
+        let payload = read_payload(digits)?;
+        let step = Step::Broadcast { payload };
+        Some(StepRow { node, step })
+    }
+
+    // A row of act B: after its node the sender, seq, signers and payload.
+    fn receive(self) -> Option<StepRow>
+        ensures { result ≡ cond (receive_fields self.entry.n self.entry.line.now) (receive_row self.entry.line.now) None }
+    {
+        let (node, sender_at) = self.node()?;
+        let (sender, seq_at) = byte_at(self.line, sender_at)?;
+        let (seq, at) = byte_at(self.line, seq_at)?;
+        let (signers, rest) = self.line.get(at..)?.split_at_checked(16)?;
+        let digits = rest.strip_prefix(b" ")?;
+        let signers = text::hex(signers)?;
+        let payload = read_payload(digits)?;
+        let step = Step::Receive {
+            sender,
+            seq,
+            signers,
+            payload,
+        };
+        Some(StepRow { node, step })
+    }
+
+    // The node of the row, if it is one of the n, and the index at which the next field starts.
+    fn node(self) -> Option<(u8, usize)>
+        ensures { result ≡ node_in self.entry.n self.entry.line.now }
+    {
+        let (node, next) = byte_at(self.line, 2)?;
+        if self.n <= node {
+            return None;
+        }
+        Some((node, next))
+    }
+}
+
+// The plain number that fits a byte and starts at index `at`, and the index at which the next field starts.
+fn byte_at(line: &[u8], at: usize) -> Option<(u8, usize)>
+    ensures { result ≡ number_at 255 line.now at }
 {
-    let Number::Plain(node, at) = read_node(n, line) else {
-        return StepRow::Unread;
-    };
-    if line.len() < at + 6 {
-        return StepRow::Unread;
-    }
-    if !text::same(&line[at..at + 6], b"- - - ") {
-        return StepRow::Unread;
-    }
-    let HexPayload::Hex(payload) = read_payload(&line[at + 6..]) else {
-        return StepRow::Unread;
-    };
-    let step = Step::Broadcast { payload };
-    StepRow::At {
-        node: node as u8,
-        step,
-    }
+    let (value, next) = text::number_at(255, line, at)?;
+    Some((value as u8, next))
 }
 
-// A row of act B, from the fields after its act: the node, sender, seq, signers and payload.
-fn receive(n: u8, line: &[u8]) -> StepRow
-    requires { after_fields 1 line.now ≡ drop 2 line.now }
-    ensures { result ≡ cond (receive_fields n line.now) (receive_row line.now) StepRow.Unread }
-{
-    let Number::Plain(node, sender_at) = read_node(n, line) else {
-        return StepRow::Unread;
-    };
-    let Number::Plain(sender, seq_at) = text::number_at(255, line, sender_at) else {
-        return StepRow::Unread;
-    };
-    let Number::Plain(seq, at) = text::number_at(255, line, seq_at) else {
-        return StepRow::Unread;
-    };
-    if line.len() < at + 17 {
-        return StepRow::Unread;
-    }
-    if line[at + 16] != b' ' {
-        return StepRow::Unread;
-    }
-    let Word::Hex(signers) = text::hex(&line[at..at + 16]) else {
-        return StepRow::Unread;
-    };
-    let HexPayload::Hex(payload) = read_payload(&line[at + 17..]) else {
-        return StepRow::Unread;
-    };
-    let step = Step::Receive {
-        sender: sender as u8,
-        seq: seq as u8,
-        signers,
-        payload,
-    };
-    StepRow::At {
-        node: node as u8,
-        step,
-    }
-}
-
-// The node of a row whose act is one letter, if it is one of n nodes.
-fn read_node(n: u8, line: &[u8]) -> Number
-    requires { after_fields 1 line.now ≡ drop 2 line.now }
-    ensures { result ≡ node_in n line.now }
-{
-    let Number::Plain(node, next) = text::number_at(255, line, 2) else {
-        return Number::NotPlain;
-    };
-    if (n as u32) <= node {
-        return Number::NotPlain;
-    }
-    Number::Plain(node, next)
-}
-
-// The payload that 32 digits write.
-fn read_payload(digits: &[u8]) -> HexPayload
+// The payload that 32 hexadecimal digits write.
+fn read_payload(digits: &[u8]) -> Option<Payload>
     ensures { result ≡ hex_payload_in digits.now }
 {
     if digits.len() != 32 {
-        return HexPayload::NotHex;
+        return None;
     }
-    let Word::Hex(high) = text::hex(&digits[0..16]) else {
-        return HexPayload::NotHex;
-    };
-    let Word::Hex(low) = text::hex(&digits[16..]) else {
-        return HexPayload::NotHex;
-    };
-    HexPayload::Hex(Payload { high, low })
+    let high = text::hex(&digits[..16])?;
+    let low = text::hex(&digits[16..])?;
+    Some(Payload { high, low })
 }

@@ -4,10 +4,10 @@
 use mathlib.Core.Path.{◌≡◌, refl, sym, ap, ap₂, ◌∙◌}
 use mathlib.Core.Bool.{false}
 use mathlib.Core.List.{List, [], ◌∷◌, ◌++◌}
-use Prim.Native.Nat.{ℕ, zero, suc, ◌+◌, ◌-◌, ◌≤◌, ◌<◌}
+use Prim.Native.Nat.{ℕ, zero, suc, ◌+◌, ◌≤◌, ◌<◌}
 use native.Mathlib.Nat.{zero-add}
 use native.Mathlib.Omega.{arith}
-use lib.ListN.{length, take, drop, length-append}
+use lib.ListN.{length, take, length-append}
 use Rattle.text.specs.Text.{ascii, empty, written}
 use Rattle.text.proofs.WriteLaws.{length-written, written_then}
 use Rattle.summary.specs.Summary.{shown_count, summary_space}
@@ -21,7 +21,7 @@ use Rattle.stages.proofs.LineEnds.{line-length}
 use Rattle.lines.specs.declared.Run.{Run}
 use Rattle.lines.specs.Bytes.{Progress, after_line_end, line_end_text, held_bytes, progress}
 use Rattle.lines.proofs.Pieces.{with_line}
-use Rattle.lines.proofs.FirstLine.{front-part, writes-printed}
+use Rattle.lines.proofs.FirstLine.{writes-printed}
 use Rattle.run.specs.Run.{no_table}
 use Rattle.run.specs.Stream.{out_space, closing_text_at, closing_text, finished_text, finished_records}
 
@@ -77,18 +77,18 @@ module _ (run : Run) (buffer records out : List ℕ) (size : length out ≡ out_
   -- or the line that is held ends
   pub finishes-line : (held ≡ 0 → ⊥) → length buffer ≡ line_space
       → (next : State) → next.config.n < 256 → (left : List ℕ) (len : ℕ) (over : List ℕ)
-      → stages.Ends run.state (take (held - 0) (drop 0 buffer)) records 0 out next left len over
+      → stages.Ends run.state (take held buffer) records 0 out next left len over
       → (last : ℕ) (final : List ℕ) → last ≡ len + length (closing_text next left) → final ≡ written len (closing_text next left) over
       → Finishes last final left
   unfolding after_line_end line_end_text
   finishes-line some long next small left len over (n, (r, t)) last final k w =
-      let line : List ℕ = take (held - 0) (drop 0 buffer) in
+      let line : List ℕ = take held buffer in
       let p : Progress = with_line run.state records line in
       let a : List ℕ = line_text run.state line records in
       let b : List ℕ = closing_text next left in
       let (l, o) = writes-printed 0 out (omega arith) a t in
-      let is : at_last ≡ p = last_line ∙ ap (with_line run.state records) (sym (front-part held buffer)) in
-      let (text, left_so) = ended-too p (ap empty (front-part held buffer) ∙ some-held held buffer some (omega arith)) in
+      let is : at_last ≡ p = last_line in
+      let (text, left_so) = ended-too p (some-held held buffer some (omega arith)) in
       let whole : a ++ b ≡ finished_text at_last =
       ap₂ (λ (state : State) (records : List ℕ). a ++ closing_text state records) n r ∙ sym (ap finished_text is ∙ text) in
       let both : length (a ++ b) ≡ length a + length b = length-append a b in

@@ -16,8 +16,7 @@ use Rattle.config.specs.declared.Config.{Config}
 use Rattle.config.specs.Config.{good}
 use Rattle.protocol.specs.Trace.{Trace}
 use Rattle.system.specs.Demand3.{Call}
-use Rattle.row.specs.declared.ConfigRow.{ConfigRow}
-use Rattle.row.specs.declared.ConfigRow.TheVariants.{Good, Bad}
+use Rattle.std.specs.Prelude.{Option, Some, None}
 use Rattle.row.specs.Row.{table_names, step_names, config_in, is_table, table_in, row_in}
 use Rattle.row.proofs.TableFields.{table-good, table-day}
 use Rattle.row.proofs.RowNodes.{row-node-below}
@@ -118,7 +117,7 @@ module _ (ordinal : ℕ) (records : List ℕ) (size : length records ≡ records
       w = config_in table
 
       go : (a : Bool) → is_table table ≡ a → (b : Bool) → leb w.n most_nodes ≡ b
-          → played_text (after_table_row (at_table c ordinal) (cond a (Good w) Bad)) records (names ∷ rows) ≡ cond (a && (b && same names step_names)) (run_text w rows) no_table
+          → played_text (after_table_row (at_table c ordinal) (cond a (Some w) None)) records (names ∷ rows) ≡ cond (a && (b && same names step_names)) (run_text w rows) no_table
       go true e true f = rw f (names-print w (leb-true w.n most_nodes f) (table-good table e) (table-dated table e) names rows fits)
       go true e false f = rw f (no-table-prints (at_table c ordinal) records (names ∷ rows))
       go false e b f = no-table-prints (at_table c ordinal) records (names ∷ rows)
@@ -128,9 +127,9 @@ module _ (ordinal : ℕ) (records : List ℕ) (size : length records ≡ records
   unfolding played_text closing_text after_line line_records line_text with_stage
   table-alone c table = go (table_in table)
     where
-      go : (t : ConfigRow) → closing_text (after_table_row (at_table c ordinal) t) records ≡ no_table
-      go Bad = refl
-      go (Good w) = small (leb w.n most_nodes)
+      go : (t : Option Config) → closing_text (after_table_row (at_table c ordinal) t) records ≡ no_table
+      go None = refl
+      go (Some w) = small (leb w.n most_nodes)
         where
           small : (b : Bool) → closing_text (cond b (at_names w ordinal) (with_stage (at_table c ordinal) NoTable)) records ≡ no_table
           small true = refl

@@ -11,6 +11,7 @@ use lib.Arith.{lt_of_le-ne}
 use lib.Dec.{eqb}
 use lib.ListN.{length, replicate, length-replicate}
 use borrow.Author.Tests.{eqb-true, eqb-false}
+use Rattle.std.specs.Prelude.{Option, Some, None}
 use Rattle.signers.proofs.Counting.{count_same}
 use Rattle.config.specs.declared.Config.{Config}
 use Rattle.config.specs.Config.{good, records_size, with_own}
@@ -19,7 +20,6 @@ use Rattle.calls.specs.Open.{open_records}
 use Rattle.system.specs.Demand3.{Call, records_after, buffer, config_at}
 use Rattle.system.proofs.Buffers.{after-length}
 use Rattle.row.specs.declared.StepRow.{StepRow}
-use Rattle.row.specs.declared.StepRow.TheVariants.{Unread, At}
 use Rattle.row.proofs.RowNodes.{NodeBelow}
 use Rattle.step.specs.Step.{call_of, records_by}
 use Rattle.run_trace.specs.RunTrace.{system_of, openings, with_row}
@@ -82,38 +82,38 @@ module _ (w : Config) (few : w.n ≤ most_nodes) (g : good w ≡ true) where
 -- ---- after a row
 
 module _ (w : Config) (few : w.n ≤ most_nodes) (list : Trace Call) (records : List ℕ) (plays : Plays w list records) where
-  pub row-plays : (row : StepRow) → NodeBelow w.n row → Plays w (with_row w list row) (row_records w row records)
+  pub row-plays : (row : Option StepRow) → NodeBelow w.n row → Plays w (with_row w list row) (row_records w row records)
   unfolding state system_of
-  row-plays Unread known = plays
-  row-plays (At node step) known =
+  row-plays None known = plays
+  row-plays (Some row) known =
       record {
-        sized = put-length w few records plays.sized node known new long;
-        same = λ u here. go u here (eqb u node) refl;
+        sized = put-length w few records plays.sized row.node known new long;
+        same = λ u here. go u here (eqb u row.node) refl;
       }
     where
       new : List ℕ
-      new = records_by (with_own w node) step (records_at w node records)
+      new = records_by (with_own w row.node) row.step (records_at w row.node records)
 
       long : length new ≡ records_size w
       long =
-          ap length (step-leaves (system_of w) node step (records_at w node records))
-          ∙ after-length (system_of w) node (call_of w step) (records_at w node records)
-          ∙ at_length w few records plays.sized node known
+          ap length (step-leaves (system_of w) row.node row.step (records_at w row.node records))
+          ∙ after-length (system_of w) row.node (call_of w row.step) (records_at w row.node records)
+          ∙ at_length w few records plays.sized row.node known
 
-      go : (u : ℕ) → u < w.n → (b : Bool) → eqb u node ≡ b
-          → records_at w u (put_records w node new records)
-          ≡ cond b (records_after (system_of w) u (call_of w step) (buffer (system_of w) list u)) (buffer (system_of w) list u)
+      go : (u : ℕ) → u < w.n → (b : Bool) → eqb u row.node ≡ b
+          → records_at w u (put_records w row.node new records)
+          ≡ cond b (records_after (system_of w) u (call_of w row.step) (buffer (system_of w) list u)) (buffer (system_of w) list u)
       go u here true e =
-          rw (eqb-true u node e)
-          (put-there w few records plays.sized node known new long
-          ∙ step-leaves (system_of w) node step (records_at w node records)
-          ∙ ap (records_after (system_of w) node (call_of w step)) (plays.same node known))
-      go u here false e = put-elsewhere w few records plays.sized node known new long u here (eqb-false u node e) ∙ plays.same u here
+          rw (eqb-true u row.node e)
+          (put-there w few records plays.sized row.node known new long
+          ∙ step-leaves (system_of w) row.node row.step (records_at w row.node records)
+          ∙ ap (records_after (system_of w) row.node (call_of w row.step)) (plays.same row.node known))
+      go u here false e = put-elsewhere w few records plays.sized row.node known new long u here (eqb-false u row.node e) ∙ plays.same u here
 
   -- what is printed for a row is what specs/Run.antt says of it,
-  pub row-prints : (ordinal : ℕ) (row : StepRow) → NodeBelow w.n row → row_text w ordinal row records ≡ row_text_after w list ordinal row
-  row-prints ordinal Unread known = refl
-  row-prints ordinal (At node step) known = rw (plays.same node known, config-at w node)
+  pub row-prints : (ordinal : ℕ) (row : Option StepRow) → NodeBelow w.n row → row_text w ordinal row records ≡ row_text_after w list ordinal row
+  row-prints ordinal None known = refl
+  row-prints ordinal (Some row) known = rw (plays.same row.node known, config-at w row.node)
 
   -- and as many nodes show a slot
   pub shown-same : shown_count w records ≡ shown_after w list

@@ -1,14 +1,13 @@
 -- What is printed for an input, whatever it is: sections 15 and 16 of docs/RULES.md. A run is a list of calls, as section 14 has them: openings, then a call
 -- for each step that is read. A unit is a node here.
 -- Assumes nothing.
-use Rattle.std.specs.Prelude.{cond, ◌&&◌, List, [], ◌∷◌, ◌++◌, ℕ, suc, leb}
+use Rattle.std.specs.Prelude.{cond, ◌&&◌, List, [], ◌∷◌, ◌++◌, ℕ, suc, leb, Option, Some, None}
 use Rattle.octets.specs.Octets.{same}
 use Rattle.config.specs.declared.Config.{Config}
 use Rattle.protocol.specs.Trace.{Trace}
 use Rattle.system.specs.Demand3.{Call, buffer, config_at}
 use Rattle.text.specs.Text.{ascii, lines}
 use Rattle.row.specs.declared.StepRow.{StepRow}
-use Rattle.row.specs.declared.StepRow.TheVariants.{Unread, At}
 use Rattle.row.specs.Row.{table_names, step_names, is_table, config_in, row_in}
 use Rattle.step.specs.Step.{answer_of, act_of, step_text, unread_text}
 use Rattle.run_trace.specs.RunTrace.{system_of, openings, with_row, calls_of, delivered_count}
@@ -18,10 +17,10 @@ use Rattle.stages.specs.Stages.{row_names}
 
 module _ (config : Config) where
   -- R16.2, R16.3: what is printed for a row, after the calls before it. A step at a node finds the records that they left there.
-  abbrev pub row_text_after : (before : Trace Call) (ordinal : ℕ) (row : StepRow) → List ℕ
-  row_text_after before ordinal Unread = unread_text ordinal
-  row_text_after before ordinal (At node step) =
-      step_text ordinal node (act_of step) (answer_of (config_at (system_of config) node) step (buffer (system_of config) before node))
+  abbrev pub row_text_after : (before : Trace Call) (ordinal : ℕ) (row : Option StepRow) → List ℕ
+  row_text_after before ordinal None = unread_text ordinal
+  row_text_after before ordinal (Some row) =
+      step_text ordinal row.node (act_of row.step) (answer_of (config_at (system_of config) row.node) row.step (buffer (system_of config) before row.node))
 
   -- The rows, of which the first has this ordinal. Unread rows are counted too.
   unfoldable pub rows_text : (before : Trace Call) (ordinal : ℕ) (rows : List (List ℕ)) → List ℕ

@@ -13,7 +13,7 @@ ghost use Rattle.summary.specs.Summary.{summary_space};
 ghost use Rattle.lines.specs.Bytes.{progress, after_bytes, bytes_text, kept_run, kept_line};
 ghost use Rattle.run.specs.Stream.{start_run, most_chunk, out_space, used_of_piece, after_piece, piece_text, closing_text, finished_text, finished_records};
 
-use lines::Run;
+use lines::{Next, Run};
 use nodes::RECORDS_SPACE;
 use stages::{LINE_SPACE, Stage, State};
 use step::ROW_SPACE;
@@ -24,32 +24,28 @@ pub const CHUNK: usize = 16384;
 // Room for whatever so many bytes print: each may end a line, and a line prints a row at most.
 pub const OUT_SPACE: usize = ROW_SPACE * CHUNK;
 
-// A run after a piece of the input, how many bytes of the piece were used, and how many are to be printed.
-#[derive(Clone, Copy)]
-pub struct Fed {
-    pub run: Run,
-    pub used: usize,
-    pub len: usize,
-}
-
 // Before the first byte of the input.
+#[tactic(auto, unfolding(crate::specs::Stream::start_run))]
 pub fn start() -> Run
     ensures { result ≡ start_run }
 {
-    let state = stages::start();
-    Run { state, held: 0 }
+    Run {
+        state: stages::start(),
+        held: 0,
+    }
 }
 
 // Plays a piece of the input, of any length, and writes what is printed for it to `out`. At most the first
-// CHUNK bytes are used, and a caller goes on after those that were. `line` is where a line is held that has
-// not ended yet; behind it all is made zero, so that nothing is kept but what is known.
+// CHUNK bytes are used, and a caller goes on after those that were. The answer's `len` is how many bytes are to
+// be printed. `line` is where a line is held that has not ended yet; behind it all is made zero, so that nothing
+// is kept but what is known.
 pub fn feed(
     run: Run,
     chunk: &[u8],
     line: &mut [u8; LINE_SPACE],
     records: &mut [u8; RECORDS_SPACE],
     out: &mut [u8; OUT_SPACE],
-) -> Fed
+) -> Next
     ensures used_value { result.used ≡ used_of_piece chunk.now }
     ensures run_value { result.run ≡ kept_run (after_piece run line.old records.old chunk.now) }
     ensures line_after { line.new ≡ kept_line (after_piece run line.old records.old chunk.now) }
@@ -58,18 +54,12 @@ pub fn feed(
     ensures out_after { out.new ≡ written 0 (piece_text run line.old records.old chunk.now) out.old }
     ensures len_in_bounds { result.len ≤ length out.new }
 {
-    let end = used_of_piece(chunk);
-    let fed = feed_lines(run, &chunk[0..end], line, records, out);
-    let next = fed.run;
-    let held = lines::held_bytes(next);
-    clear_behind(held, line);
-    let state = next.state;
-    let run = Run { state, held };
-    Fed {
-        run,
-        used: fed.used,
-        len: fed.len,
-    }
+    let used = chunk.len().min(CHUNK);
+    let fed = feed_lines(run, &chunk[..used], line, records, out);
+    let held = lines::held_bytes(fed.run);
+    line[held..].fill(0);
+    let run = Run { held, ..fed.run };
+    Next { run, ..fed }
 }
 
 // Ends the input: plays what there is of a last line, and writes what is printed at the end to `out`. The
@@ -85,15 +75,12 @@ pub fn finish(
     ensures records_after { records.new ≡ finished_records (progress run line.now records.old) }
     ensures upper_bound { result ≤ length out.new }
 {
-    let state = run.state;
     let held = lines::held_bytes(run);
     if held == 0 {
-        return close(state, records, 0, out);
+        return close(run.state, records, 0, out);
     }
-    let all = &line[..];
-    let ended = stages::end_line(state, &all[0..held], records, 0, out);
-    let state = ended.state;
-    close(state, records, ended.len, out)
+    let ended = stages::end_line(run.state, &line[..held], records, 0, out);
+    close(ended.state, records, ended.len, out)
 }
 
 // The last names line and rows, or that there was no table.
@@ -102,22 +89,10 @@ fn close(state: State, records: &[u8; RECORDS_SPACE], at: usize, out: &mut [u8])
     ensures value { result ≡ at + length (closing_text state records.now) }
     ensures out_after { out.new ≡ written at (closing_text state records.now) out.old }
 {
-    let stage = state.stage;
-    if let Stage::Steps = stage {
-        let config = state.config;
-        return summary::print(config, records, at, out);
+    match state.stage {
+        Stage::Steps => summary::print(state.config, records, at, out),
+        _ => text::put(b"no table\n", at, out),
     }
-    text::put(b"no table\n", at, out)
-}
-
-// How many bytes of a piece are used.
-fn used_of_piece(chunk: &[u8]) -> usize
-    ensures { result ≡ used_of_piece chunk.now }
-{
-    if CHUNK < chunk.len() {
-        return CHUNK;
-    }
-    chunk.len()
 }
 
 // Every line that ends in the chunk, and what there is of the next.
@@ -127,7 +102,7 @@ fn feed_lines(
     line: &mut [u8; LINE_SPACE],
     records: &mut [u8; RECORDS_SPACE],
     out: &mut [u8],
-) -> Fed
+) -> Next
     requires chunk_len_bound { length chunk.now ≤ most_chunk }
     requires out_len { length out.old ≡ out_space }
     ensures records_after { progress result.run line.new records.new ≡ after_bytes (progress run line.old records.old) chunk.now }
@@ -136,27 +111,19 @@ fn feed_lines(
     ensures out_after { out.new ≡ written 0 (bytes_text (progress run line.old records.old) chunk.now) out.old }
     ensures len_in_bounds { result.len ≤ length out.new }
 {
-    let mut now = run;
-    let mut at = 0;
-    let mut len = 0;
-    while at < chunk.len() {
-        let next = lines::next_line(now, &chunk[at..], line, records, len, out);
-        now = next.run;
-        len = next.len;
-        at += next.used;
+    let mut fed = Next {
+        run,
+        used: 0,
+        len: 0,
+    };
+    // A turn goes on by as many bytes as the line has, so no `for` fits.
+    while fed.used < chunk.len() {
+        let rest = &chunk[fed.used..];
+        let next = lines::next_line(fed.run, rest, line, records, fed.len, out);
+        fed = Next {
+            used: fed.used + next.used,
+            ..next
+        };
     }
-    Fed {
-        run: now,
-        used: at,
-        len,
-    }
-}
-
-// Makes every byte behind those that are held zero. Once a piece is enough: no line that is played looks
-// there.
-fn clear_behind(held: usize, line: &mut [u8])
-    requires { held ≤ length line.old }
-    ensures { line.new ≡ take held line.old ++ replicate (length line.old - held) 0 }
-{
-    octets::clear(&mut line[held..]);
+    fed
 }

@@ -11,9 +11,10 @@ use lib.Arith.{lt_of_le-ne}
 use lib.Dec.{eqb}
 use lib.ListN.{length, length-replicate}
 use borrow.Author.Tests.{eqb-false, ne_eqb}
+use Rattle.std.specs.Prelude.{Option, Some, None}
 use Rattle.octets.specs.Octets.{same, bytes_of}
 use Rattle.signers.specs.Sets.{NodeSet}
-use Rattle.refusal.specs.Outcome.{Outcome, refused, done, after}
+use Rattle.refusal.specs.Outcome.{Outcome, refused, done}
 use Rattle.refusal.proofs.Reasons.{refused-not-done}
 use Rattle.payload.specs.declared.Payload.{Payload}
 use Rattle.payload.specs.Payload.{bytes}
@@ -38,7 +39,6 @@ use Rattle.system.specs.Demand3.{Call, Open, System, correct, in_slot, records_a
 use Rattle.system.proofs.Simulation.{correct-below}
 use Rattle.system.specs.Demand3 as demand
 use Rattle.row.specs.declared.StepRow.{StepRow}
-use Rattle.row.specs.declared.StepRow.TheVariants.{Unread, At}
 use Rattle.row.specs.declared.Step.{Step}
 use Rattle.row.specs.declared.Step.TheVariants.{Broadcast, Receive}
 use Rattle.row.specs.Row.{row_in}
@@ -182,11 +182,11 @@ rows_same s list u e (line ∷ others) =
     other : System
     other = system_of s.shared
 
-    row_same : (row : StepRow) → buffer s (with_row s.shared list row) u ≡ buffer other (with_row s.shared list row) u
-    row_same Unread = e
-    row_same (At v step) =
-        ap (λ (records : List ℕ). cond (eqb u v) (records_after s u (call_of s.shared step) records) records) e
-        ∙ ap (λ (records : List ℕ). cond (eqb u v) records (buffer other list u)) (after-shared s u (call_of s.shared step) (buffer other list u))
+    row_same : (row : Option StepRow) → buffer s (with_row s.shared list row) u ≡ buffer other (with_row s.shared list row) u
+    row_same None = e
+    row_same (Some row) =
+        ap (λ (records : List ℕ). cond (eqb u row.node) (records_after s u (call_of s.shared row.step) records) records) e
+        ∙ ap (λ (records : List ℕ). cond (eqb u row.node) records (buffer other list u)) (after-shared s u (call_of s.shared row.step) (buffer other list u))
 
 pub run-records : RunRecords
 unfolding calls_of system_of
@@ -263,14 +263,14 @@ module _ (s : System) where
     pub everywhere : (u : ℕ) → u < s.shared.n → called s list u ≡ true
 
   -- rows after it are at such nodes
-  row-begun : (list : Trace Call) → Begun list → (row : StepRow) → NodeBelow s.shared.n row → Begun (with_row s.shared list row)
-  row-begun list begun Unread known = begun
-  row-begun list begun (At v step) known =
+  row-begun : (list : Trace Call) → Begun list → (row : Option StepRow) → NodeBelow s.shared.n row → Begun (with_row s.shared list row)
+  row-begun list begun None known = begun
+  row-begun list begun (Some row) known =
       record {
-        first = (begun.first, step-opens-not v step (buffer s list v) ∙ sym (ap not (begun.everywhere v known)));
+        first = (begun.first, step-opens-not row.node row.step (buffer s list row.node) ∙ sym (ap not (begun.everywhere row.node known)));
         within = (begun.within, known);
         everywhere = λ u here.
-            ever-grows s.buffers (records_after s) (λ node made records. true) list u v (call_of s.shared step) (begun.everywhere u here);
+            ever-grows s.buffers (records_after s) (λ node made records. true) list u row.node (call_of s.shared row.step) (begun.everywhere u here);
       }
 
   rows-begun : (list : Trace Call) → Begun list → (rows : List (List ℕ)) → Begun (with_rows s.shared list rows)

@@ -3,7 +3,7 @@
 -- correct nodes are lawful, where buffers have the right length and no signature of a correct node is forged (R14.6). Demand 3 asks besides for a good
 -- configuration and at most t faulty nodes. These laws are proved in proofs/Calls.antt, the last in proofs/Shown.antt.
 -- Assumes nothing.
-use Rattle.std.specs.Prelude.{◌≡◌, Bool, true, false, not, cond, ◌&&◌, List, ◌∷◌, ℕ, ◌^◌, ◌<◌, length}
+use Rattle.std.specs.Prelude.{◌≡◌, Bool, true, false, not, cond, ◌&&◌, List, ◌∷◌, ℕ, ◌^◌, ◌<◌, length, None}
 use Rattle.octets.specs.Octets.{same}
 use Rattle.signers.specs.Sets.{NodeSet, count}
 use Rattle.refusal.specs.Outcome.{Outcome, after}
@@ -15,7 +15,6 @@ use Rattle.calls.specs.Showing as shown
 use Rattle.protocol.specs.Trace.{Trace, start, ◌then◌calls◌}
 use Rattle.system.specs.Demand3 as demand3
 use Rattle.system.specs.Demand3.{Call, System, correct, records_after, opens, announces_in, delivers_in, delivers, sends, buffer, ever, times, called, Unforged, Lawful, config_at}
-use Rattle.row.specs.declared.StepRow.TheVariants.{Unread}
 use Rattle.row.specs.declared.Step.{Step}
 use Rattle.row.specs.declared.Step.TheVariants.{Broadcast, Receive}
 use Rattle.row.specs.Row.{row_in}
@@ -74,7 +73,7 @@ RowIsCall = (s : System) (u : ℕ) (step : Step) (records : List ℕ) → IsCall
 -- R15.10: a row that is not read makes no call
 abbrev pub UnreadIsNone : Type 0
 UnreadIsNone =
-    (config : Config) (before : Trace Call) (line : List ℕ) (others : List (List ℕ)) → row_in config.n line ≡ Unread
+    (config : Config) (before : Trace Call) (line : List ℕ) (others : List (List ℕ)) → row_in config.n line ≡ None
     → with_rows config before (line ∷ others) ≡ with_rows config before others
 
 -- ---- any records before the opening

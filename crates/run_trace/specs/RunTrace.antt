@@ -1,13 +1,12 @@
 -- R15.12: the list of calls that a run makes, openings and then a call for each step row that is read. They are the calls of demand 3, the claim of RULES section 14.
 -- Assumes nothing.
-use Rattle.std.specs.Prelude.{false, List, [], ◌∷◌, ℕ, zero, suc, replicate}
+use Rattle.std.specs.Prelude.{false, List, [], ◌∷◌, ℕ, zero, suc, replicate, Option, Some, None}
 use Rattle.signers.specs.Sets.{count}
 use Rattle.config.specs.declared.Config.{Config}
 use Rattle.config.specs.Config.{records_size, slot_of_day}
 use Rattle.protocol.specs.Trace.{Trace, start, ◌then◌calls◌}
 use Rattle.system.specs.Demand3.{Call, Open, System, delivers_in, ever}
 use Rattle.row.specs.declared.StepRow.{StepRow}
-use Rattle.row.specs.declared.StepRow.TheVariants.{Unread, At}
 use Rattle.row.specs.Row.{row_in}
 use Rattle.step.specs.Step.{call_of}
 
@@ -22,9 +21,9 @@ module _ (config : Config) where
   openings (suc n) = openings n then n calls Open
 
   -- R15.10: the calls before a row, and then the row's own; an unread row makes none
-  abbrev pub with_row : (before : Trace Call) (row : StepRow) → Trace Call
-  with_row before Unread = before
-  with_row before (At node step) = before then node calls call_of config step
+  abbrev pub with_row : (before : Trace Call) (row : Option StepRow) → Trace Call
+  with_row before None = before
+  with_row before (Some row) = before then row.node calls call_of config row.step
 
   unfoldable pub with_rows : (before : Trace Call) (rows : List (List ℕ)) → Trace Call
   with_rows before [] = before

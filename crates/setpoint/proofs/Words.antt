@@ -3,7 +3,6 @@ use mathlib.Core.Path.{◌≡◌, ap, ap₂, ◌∙◌}
 use mathlib.Core.Bool.{cond, ◌&&◌}
 use mathlib.Core.List.{[], ◌∷◌}
 use Prim.Native.Nat.{ℕ, ◌+◌, ◌*◌, ◌/◌, ◌%◌}
-use native.Mathlib.Nat.{mod-eq_of_lt}
 use native.Mathlib.Omega.{arith}
 use lib.Dec.{eqb}
 use Rattle.octets.specs.Octets.{bytes_of, number}
@@ -23,12 +22,10 @@ rest = 0x100_0000_0000
 
 module _ (p : Payload) (fits : Fits p) where
   -- it is a setpoint if the tag is 1, and what comes after the value is zero, and so is the low word
-  pub is-setpoint-words : is_setpoint (bytes p) ≡ (eqb (p.high / top) 1 && (eqb (p.high % rest) 0 && eqb p.low 0))
+  pub is-setpoint-words : is_setpoint (bytes p) ≡ (eqb (p.high / top % 256) 1 && (eqb (p.high % rest) 0 && eqb p.low 0))
   unfolding is_setpoint bytes bytes_of
   is-setpoint-words =
-      let h = fits.high_fits in
-      let tag : p.high / top % 256 ≡ p.high / top = mod-eq_of_lt (omega arith) in
-      ap₂ (λ first others. eqb first 1 && others) tag
+      ap (λ others. eqb (p.high / top % 256) 1 && others)
       (blank-append (bytes_of 5 p.high) (bytes_of 8 p.low) ∙ ap₂ ◌&&◌ (blank-low 5 p.high) (blank-bytes_of 8 p.low fits.low_fits))
 
   pub hundredths-words : hundredths (bytes p) ≡ signed (p.high / 0x1_0000_0000_0000 % 256 * 256 + p.high / rest % 256)
@@ -37,6 +34,6 @@ module _ (p : Payload) (fits : Fits p) where
 
   -- so what it says is found by its words
   pub said-words : setpoint_in (bytes p)
-      ≡ cond (eqb (p.high / top) 1 && (eqb (p.high % rest) 0 && eqb p.low 0)) (signed (p.high / 0x1_0000_0000_0000 % 256 * 256 + p.high / rest % 256) ∷ []) []
+      ≡ cond (eqb (p.high / top % 256) 1 && (eqb (p.high % rest) 0 && eqb p.low 0)) (signed (p.high / 0x1_0000_0000_0000 % 256 * 256 + p.high / rest % 256) ∷ []) []
   unfolding setpoint_in
   said-words = ap₂ (λ passes value. cond passes (value ∷ []) []) is-setpoint-words hundredths-words

@@ -1,10 +1,8 @@
 -- R18.1 and R18.2: which payloads, called bodies in the formats, say a setpoint, and which.
 -- Assumes nothing.
-use Rattle.std.specs.Prelude.{Bool, cond, ◌&&◌, List, [], ◌∷◌, ℕ, eqb, ℤ, get_or}
+use Rattle.std.specs.Prelude.{Bool, cond, ◌&&◌, List, [], ◌∷◌, ℕ, eqb, ℤ, get_or, Option, Some, None}
 use Rattle.octets.specs.Octets.{part, number, blank}
 use Rattle.signed.specs.Signed.{signed}
-use Rattle.setpoint.specs.declared.Setpoint.{Setpoint}
-use Rattle.setpoint.specs.declared.Setpoint.TheVariants.{Value, Other}
 
 -- R18.1: byte 0 is 1, and bytes 3 to 15 are zero
 unfoldable pub is_setpoint : (payload : List ℕ) → Bool
@@ -19,6 +17,6 @@ unfoldable pub setpoint_in : (payload : List ℕ) → List ℤ
 setpoint_in payload = cond (is_setpoint payload) (hundredths payload ∷ []) []
 
 -- the value of each case (R17.3)
-abbrev pub value_in : Setpoint → List ℤ
-value_in (Value z) = z ∷ []
-value_in Other = []
+abbrev pub value_in : Option ℤ → List ℤ
+value_in (Some z) = z ∷ []
+value_in None = []

@@ -1,12 +1,14 @@
--- Which bits write a number of 16 bits, and which number they write; and what a subtraction from -1 gives.
+-- Which bits write a number of 16 bits, and which number they write; and std's word for it.
 -- Assumes nothing.
 use mathlib.Core.Path.{◌≡◌, refl, ap, ◌∙◌}
-use mathlib.Core.Bool.{Bool, true, false, true≢false}
-use Prim.Native.Nat.{ℕ, zero, suc, ◌-◌, ◌≤◌, ◌<◌}
+use mathlib.Core.Bool.{Bool, true, false}
+use Prim.Native.Nat.{ℕ, ◌-◌, ◌≤◌, ◌<◌}
 use native.Mathlib.Omega.{arith}
 use lib.Dec.{ltb}
-use lib.IntN.{ℤ, pos, negsuc, ◌-ℤ◌}
-use lib.Signed.{lt_z, mag}
+use lib.IntN.{pos, negsuc}
+use lib.Signed.{mag}
+use mir.Syntax.{w16}
+use mir.Val.{to_z}
 use borrow.Author.Tests.{ltb-true, ltb-false, lt-ltb, le-ltb}
 use Rattle.signed.specs.Signed.{signed, bits_of, BitsWriteNumbers, NumbersReadBack}
 
@@ -26,13 +28,13 @@ signed-fits bits h = go (ltb bits 32768) refl
     go true p = rw (signed_low bits (ltb-true bits 32768 p)) (ltb-true bits 32768 p)
     go false p = let high = ltb-false bits 32768 p in rw (signed_high bits high h) (omega arith)
 
--- one less than what is below zero
-pub below-zero : (k : ℕ) → negsuc 0 -ℤ pos k ≡ negsuc k
-below-zero zero = refl
-below-zero (suc k) = ap negsuc (omega arith)
-
-pub above_zero : (n : ℕ) → negsuc 0 -ℤ negsuc n ≡ pos n
-above_zero n = rw (le-ltb (suc n) 1 (omega arith)) (ap pos (omega arith))
+-- std's word for the number that 16 bits write says the same
+pub signed_cast : (bits : ℕ) → bits < 65536 → to_z w16 bits ≡ signed bits
+signed_cast bits h = go (ltb bits 32768) refl
+  where
+    go : (m : Bool) → ltb bits 32768 ≡ m → to_z w16 bits ≡ signed bits
+    go true p = let low = ltb-true bits 32768 p in rw (signed_low bits low, lt-ltb bits 32768 low)
+    go false p = let high = ltb-false bits 32768 p in rw (signed_high bits high h, le-ltb bits 32768 high) (ap negsuc (omega arith))
 
 -- the bits of a number, and the number of bits
 pub bits-write-numbers : BitsWriteNumbers
@@ -45,12 +47,3 @@ bits-write-numbers bits h = go (ltb bits 32768) refl
 pub numbers-read-back : NumbersReadBack
 numbers-read-back (pos n) h = (signed_low n h, omega arith)
 numbers-read-back (negsuc n) h = (signed_high (65535 - n) (omega arith) (omega arith) ∙ ap negsuc (omega arith), omega arith)
-
--- a number below zero, and one from 0 on
-pub below-says : (z : ℤ) → lt_z z (pos 0) ≡ true → (n : ℕ) × (z ≡ negsuc n)
-below-says (pos n) h = absurd (let less = ltb-true n 0 h in omega arith)
-below-says (negsuc n) h = (n, refl)
-
-pub above-says : (z : ℤ) → lt_z z (pos 0) ≡ false → (n : ℕ) × (z ≡ pos n)
-above-says (pos n) h = (n, refl)
-above-says (negsuc n) h = absurd (true≢false h)

@@ -45,7 +45,7 @@ pub fn common(a: u64, b: u64) -> u64
 pub fn size(set: u64) -> u32
     ensures { result ≡ sized set }
 {
-    u64::count_ones(set)
+    set.count_ones()
 }
 
 // Whether some node is in both sets.
@@ -63,7 +63,7 @@ pub fn below(n: u8) -> u64
         return 0;
     }
     if 64 < n {
-        return 0xffff_ffff_ffff_ffff;
+        return u64::MAX;
     }
-    0xffff_ffff_ffff_ffff >> (64 - n)
+    u64::MAX >> (64 - n)
 }

@@ -1,10 +1,10 @@
 -- The end of a line: what the program must leave, at each stage, and how much is printed. From the definitions of specs/Stages.antt.
 -- Assumes nothing.
+use Rattle.std.specs.Prelude.{Option, Some, None}
 use Rattle.std.proofs.Common.{◌≡◌, ℕ, ◌≤◌, Bool, true, false, cond, List, [], length, sym, ap, ◌∙◌, lit≤}
 use Rattle.octets.specs.Octets.{same}
 use Rattle.text.specs.Text.{ascii}
 use Rattle.row.specs.declared.StepRow.{StepRow}
-use Rattle.row.specs.declared.StepRow.TheVariants.{Unread, At}
 use Rattle.row.specs.Row.{step_names, row_in}
 use Rattle.step.specs.Step.{row_space, act_of}
 use Rattle.step.proofs.Answers.{act-length, step-length, unread-length}
@@ -35,9 +35,9 @@ module _ (state : State) (line records : List ℕ) where
 
   -- ---- how much is printed
 
-  row-length : (row : StepRow) → length (row_text state.config state.ordinal row records) ≤ row_space
-  row-length Unread = unread-length state.ordinal
-  row-length (At node step) = step-length state.ordinal node (act_of step) (act-length step) _
+  row-length : (row : Option StepRow) → length (row_text state.config state.ordinal row records) ≤ row_space
+  row-length None = unread-length state.ordinal
+  row-length (Some row) = step-length state.ordinal row.node (act_of row.step) (act-length row.step) _
 
   names-length : (b : Bool) → length (cond b row_names []) ≤ row_space
   unfolding ascii

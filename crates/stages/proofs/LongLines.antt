@@ -5,7 +5,7 @@ use Rattle.std.proofs.Common.{◌≡◌, ℕ, ◌<◌, ◌≤◌, Bool, true, fa
 use Rattle.octets.specs.Octets.{same}
 use Rattle.octets.proofs.Same.{same-says}
 use Rattle.text.specs.Text.{ascii}
-use Rattle.row.specs.declared.ConfigRow.TheVariants.{Bad}
+use Rattle.std.specs.Prelude.{None}
 use Rattle.row.specs.Row.{table_names, step_names, is_table, table_in}
 use Rattle.row.proofs.LineLengths.{table-short}
 use Rattle.row.proofs.StepRows.{row-long}
@@ -32,11 +32,11 @@ unfolding step_names ascii
 long-step_names line long = longer-differs line step_names (lit≤ tt) long
 
 -- and no table row
-long-table : (line : List ℕ) → 120 < length line → table_in line ≡ Bad
+long-table : (line : List ℕ) → 120 < length line → table_in line ≡ None
 unfolding table_in
 long-table line long = go (is_table line) refl
   where
-    go : (b : Bool) → is_table line ≡ b → table_in line ≡ Bad
+    go : (b : Bool) → is_table line ≡ b → table_in line ≡ None
     go true e = absurd (omega (arith, table-short line e))
     go false e = rw e
 

@@ -1,13 +1,12 @@
 -- A step row that is read, and one that is not: where something is printed for it, it was read and that is its text; and else nothing was done, where
 -- there is room for any row. From the definitions of specs/Stages.antt, and that a row which is read has no line feed.
 -- Assumes nothing.
+use Rattle.std.specs.Prelude.{Option, Some, None}
 use Rattle.std.proofs.Common.{◌≡◌, ℕ, ◌+◌, ◌<◌, ◌≤◌, Bool, true, false, List, ◌++◌, length, refl, ◌∙◌, arith, length-append}
 use Rattle.config.specs.declared.Config.{Config}
 use Rattle.text.specs.Text.{before, decimal, line_feed}
 use Rattle.text.proofs.DecimalDigits.{decimal-some}
 use Rattle.row.specs.declared.StepRow.{StepRow}
-use Rattle.row.specs.declared.StepRow.TheVariants.{Unread, At}
-use Rattle.row.specs.declared.Step.{Step}
 use Rattle.row.specs.Row.{row_in}
 use Rattle.row.proofs.RowNodes.{row-no-feed}
 use Rattle.step.specs.Step.{step_text, unread_text, row_space, roomy}
@@ -24,41 +23,41 @@ some : (ordinal : ℕ) (rest : List ℕ) → 0 < length (decimal ordinal ++ rest
 some ordinal rest = omega (arith, decimal-some ordinal, length-append (decimal ordinal) rest)
 
 -- nor is what is printed for a row that is read
-row-some : (config : Config) (ordinal : ℕ) (records : List ℕ) (node : ℕ) (step : Step) → 0 < length (row_text config ordinal (At node step) records)
+row-some : (config : Config) (ordinal : ℕ) (records : List ℕ) (row : StepRow) → 0 < length (row_text config ordinal (Some row) records)
 unfolding step_text
-row-some config ordinal records node step = some ordinal _
+row-some config ordinal records row = some ordinal _
 
 -- ---- a row that was played
 
 module _ (config : Config) (ordinal : ℕ) (records : List ℕ) (at : ℕ) (out : List ℕ) where
   module _ {read : ℕ} {over : List ℕ} where
     -- with some text, the row was read,
-    pub read-printed : (row : StepRow) → Prints at out (nodes.read_text config ordinal row records) read over → at < read
+    pub read-printed : (row : Option StepRow) → Prints at out (nodes.read_text config ordinal row records) read over → at < read
         → Prints at out (row_text config ordinal row records) read over
-    read-printed Unread t more = absurd (omega (arith, (nothing_ends at out t).0))
-    read-printed (At node step) t more = t
+    read-printed None t more = absurd (omega (arith, (nothing_ends at out t).0))
+    read-printed (Some row) t more = t
 
     -- and with none, it is printed that it was not
-    pub unread-printed : (row : StepRow) → Prints at out (nodes.read_text config ordinal row records) read over → read ≤ at
+    pub unread-printed : (row : Option StepRow) → Prints at out (nodes.read_text config ordinal row records) read over → read ≤ at
         → {len : ℕ} {final : List ℕ} → Prints at over (unread_text ordinal) len final → Prints at out (row_text config ordinal row records) len final
-    unread-printed Unread t none p = rw (nothing_ends at out t).1 at p
-    unread-printed (At node step) t none p = go (roomy at out) refl p
+    unread-printed None t none p = rw (nothing_ends at out t).1 at p
+    unread-printed (Some row) t none p = go (roomy at out) refl p
       where
         go : (b : Bool) → roomy at out ≡ b → {len : ℕ} {final : List ℕ} → Prints at over (unread_text ordinal) len final
-            → Prints at out (row_text config ordinal (At node step) records) len final
-        go true e p = absurd (omega (arith, printed-ends at out e _ t, row-some config ordinal records node step))
+            → Prints at out (row_text config ordinal (Some row) records) len final
+        go true e p = absurd (omega (arith, printed-ends at out e _ t, row-some config ordinal records row))
         go false e p =
             let (m, o) = unprinted-ends at out e _ t in
             let (k, f) = unprinted-ends at out e (unread_text ordinal) (rw o at p) in
-            let (l, w) = unprinted at out e (row_text config ordinal (At node step) records) in
+            let (l, w) = unprinted at out e (row_text config ordinal (Some row) records) in
             (k ∙ l, f ∙ w)
 
   -- with room for any row, and none printed, nothing was done
-  pub unread-nothing : (row : StepRow) {read : ℕ} {over : List ℕ} → Prints at out (nodes.read_text config ordinal row records) read over
+  pub unread-nothing : (row : Option StepRow) {read : ℕ} {over : List ℕ} → Prints at out (nodes.read_text config ordinal row records) read over
       → at + row_space ≤ length out → read ≤ at → (row_records config row records ≡ records) × (over ≡ out)
-  unread-nothing Unread t room none = (refl, (nothing_ends at out t).1)
-  unread-nothing (At node step) t room none =
-      absurd (omega (arith, t.0 ∙ (printed-fits at out (row_text config ordinal (At node step) records) room).0, row-some config ordinal records node step))
+  unread-nothing None t room none = (refl, (nothing_ends at out t).1)
+  unread-nothing (Some row) t room none =
+      absurd (omega (arith, t.0 ∙ (printed-fits at out (row_text config ordinal (Some row) records) room).0, row-some config ordinal records row))
 
 -- ---- a line of which the row was played where it stands
 
@@ -75,13 +74,13 @@ module _ (state : State) (line records : List ℕ) (at : ℕ) (out : List ℕ) {
   unfolding read_text after_line line_records read_records line_text
   in_place more = go state.stage refl t
     where
-      row : StepRow
+      row : Option StepRow
       row = row_in (played_nodes state.config) line
 
-      feedless-row : (r : StepRow) → row ≡ r → Prints at out (nodes.read_text state.config state.ordinal r records) read over
+      feedless-row : (r : Option StepRow) → row ≡ r → Prints at out (nodes.read_text state.config state.ordinal r records) read over
           → before line_feed line ≡ length line
-      feedless-row Unread e t = absurd (omega (arith, (nothing_ends at out t).0))
-      feedless-row (At node step) e t = row-no-feed (played_nodes state.config) line node step e
+      feedless-row None e t = absurd (omega (arith, (nothing_ends at out t).0))
+      feedless-row (Some read) e t = row-no-feed (played_nodes state.config) line read e
 
       go : (stage : Stage) → state.stage ≡ stage → Prints at out (read_text_at state stage line records) read over → InPlace
       go TableNames e t = absurd (omega (arith, (nothing_ends at out t).0))

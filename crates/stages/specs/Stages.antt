@@ -1,12 +1,11 @@
 -- A run file line by line (R15.1): what is known after a line that has ended, what it does to the records, and what is printed for it. It goes by stages: what
 -- the line is to be.
 -- Assumes nothing.
-use Rattle.std.specs.Prelude.{ℕ, ◌+◌, ◌%◌, ◌^◌, cond, List, [], nat_le}
+use Rattle.std.specs.Prelude.{ℕ, ◌+◌, ◌%◌, ◌^◌, cond, List, [], nat_le, Option, Some, None}
 use Rattle.octets.specs.Octets.{same}
 use Rattle.text.specs.Text.{ascii}
+use Rattle.config.specs.declared.Config.{Config}
 use Rattle.config.specs.Config.{config_of}
-use Rattle.row.specs.declared.ConfigRow.{ConfigRow}
-use Rattle.row.specs.declared.ConfigRow.TheVariants.{Good, Bad}
 use Rattle.row.specs.Row.{table_names, step_names, table_in, row_in}
 use Rattle.nodes.specs.Nodes as nodes
 use Rattle.nodes.specs.Nodes.{most_nodes, played_nodes, opened_records, row_records, row_text}
@@ -33,9 +32,9 @@ module _ (state : State) where
   with_stage stage = record { stage = stage; config = state.config; ordinal = state.ordinal }
 
   -- R15.6: a good table of more than 8 nodes is none (R15.7)
-  abbrev pub after_table_row : (table : ConfigRow) → State
-  after_table_row Bad = with_stage NoTable
-  after_table_row (Good config) =
+  abbrev pub after_table_row : (table : Option Config) → State
+  after_table_row None = with_stage NoTable
+  after_table_row (Some config) =
       cond (nat_le config.n most_nodes) (record { stage = StepNames; config = config; ordinal = state.ordinal }) (with_stage NoTable)
 
   -- after the second names line, where it is right: the first step row is to come

@@ -12,7 +12,6 @@ ghost use Rattle.stages.specs.Stages.{start_state, with_stage, after_table_row, 
 
 use config::Config;
 use nodes::RECORDS_SPACE;
-use row::ConfigRow;
 use step::ROW_SPACE;
 
 // So many bytes of a line are enough to know what it does: one more than a row may have (R15.10). A line that
@@ -20,7 +19,7 @@ use step::ROW_SPACE;
 pub const LINE_SPACE: usize = 121;
 
 // What the next line is to be; after a wrong one of the first three there is no table (R15.7).
-#[derive(Clone, Copy)]
+#[derive(Clone, Copy, PartialEq, Eq, Debug)]
 pub enum Stage {
     TableNames,
     TableRow,
@@ -30,7 +29,8 @@ pub enum Stage {
 }
 
 // What is known after some lines, beside the records: what the next line is to be, the config that the table
-// row gives, and the ordinal of the next step row.
+// row gives, and the ordinal of the next step row. Three fields and no stage with values: specs/Stages gives a state as
+// these three, and the laws of the stream cite it.
 #[derive(Clone, Copy)]
 pub struct State {
     pub stage: Stage,
@@ -46,13 +46,13 @@ pub struct Ended {
 }
 
 // Before the first line.
+#[tactic(auto, unfolding(crate::specs::Stages::start_state))]
 pub fn start() -> State
     ensures { result ≡ start_state }
 {
-    let config = Config::new(0, 0, 0, 0, 0, 0);
     State {
         stage: Stage::TableNames,
-        config,
+        config: Config::new(0, 0, 0, 0, 0, 0),
         ordinal: 0,
     }
 }
@@ -71,8 +71,7 @@ pub fn end_line(
     ensures len_value { result.len ≡ printed_end at (line_text state line.now records.old) out.old }
     ensures out_after { out.new ≡ printed_over at (line_text state line.now records.old) out.old }
 {
-    let stage = state.stage;
-    match stage {
+    match state.stage {
         Stage::TableNames => Ended {
             state: end_table_names(state, line),
             len: at,
@@ -89,6 +88,7 @@ pub fn end_line(
 
 // Does the same, but only for a step row that is read: any other line does nothing, and the answer is `at`.
 // What is known after such a row is what `after_step_row` gives.
+// The answer is no Option: by `printed_end` it is `at` for a row that is read too, where `out` has no room.
 pub fn play_step_row(
     state: State,
     line: &[u8],
@@ -100,66 +100,64 @@ pub fn play_step_row(
     ensures out_after { out.new ≡ printed_over at (read_text state line.now records.old) out.old }
     ensures records_after { records.new ≡ read_records state line.now records.old }
 {
-    let stage = state.stage;
-    if let Stage::Steps = stage {
-        let config = state.config;
-        return nodes::play_line(config, state.ordinal, line, records, at, out);
+    if let Stage::Steps = state.stage {
+        nodes::play_line(state.config, state.ordinal, line, records, at, out)
+    } else {
+        at
     }
-    at
 }
 
 // What is known after a step row. The ordinal is counted in 64 bits.
+#[tactic(auto, unfolding(crate::specs::Stages::after_step_row))]
 pub fn after_step_row(state: State) -> State
     ensures { result ≡ after_step_row state }
 {
-    let config = state.config;
     State {
         stage: Stage::Steps,
-        config,
-        ordinal: std::num::wrapping_add_u64(state.ordinal, 1),
-    }
-}
-
-// The same with another kind of line to come.
-fn with_stage(state: State, stage: Stage) -> State
-    ensures { result ≡ with_stage state stage }
-{
-    let config = state.config;
-    State {
-        stage,
-        config,
-        ordinal: state.ordinal,
+        ordinal: state.ordinal.wrapping_add(1),
+        ..state
     }
 }
 
 // The first names line.
+#[tactic(auto, unfolding(crate::specs::Stages::with_stage))]
 fn end_table_names(state: State, line: &[u8]) -> State
     ensures { result ≡ with_stage state (if same line.now table_names then Stage.TableRow else Stage.NoTable) }
 {
-    if row::is_table_names(line) {
-        return with_stage(state, Stage::TableRow);
-    }
-    with_stage(state, Stage::NoTable)
+    let stage = if row::is_table_names(line) {
+        Stage::TableRow
+    } else {
+        Stage::NoTable
+    };
+    State { stage, ..state }
 }
 
 // The table row.
-fn end_table_row(state: State, table: ConfigRow) -> State
+#[tactic(auto, unfolding(crate::specs::Stages::with_stage))]
+fn end_table_row(state: State, table: Option<Config>) -> State
     ensures { result ≡ after_table_row state table }
 {
-    let ConfigRow::Good(config) = table else {
-        return with_stage(state, Stage::NoTable);
+    let Some(config) = table else {
+        return State {
+            stage: Stage::NoTable,
+            ..state
+        };
     };
     if nodes::NODES < config.n {
-        return with_stage(state, Stage::NoTable);
+        return State {
+            stage: Stage::NoTable,
+            ..state
+        };
     }
     State {
         stage: Stage::StepNames,
         config,
-        ordinal: state.ordinal,
+        ..state
     }
 }
 
 // The second names line.
+#[tactic(auto, unfolding(crate::specs::Stages::with_stage))]
 fn end_step_names(
     state: State,
     line: &[u8],
@@ -173,30 +171,35 @@ fn end_step_names(
     ensures out_after { out.new ≡ printed_over at (if same line.now step_names then row_names else []) out.old }
 {
     if row::is_step_names(line) {
-        return begin(state, records, at, out);
-    }
-    Ended {
-        state: with_stage(state, Stage::NoTable),
-        len: at,
+        begin(state, records, at, out)
+    } else {
+        Ended {
+            state: State {
+                stage: Stage::NoTable,
+                ..state
+            },
+            len: at,
+        }
     }
 }
 
 // Opens the day at every node that is played, and prints the names line above the step rows.
+#[tactic(auto, unfolding(crate::specs::Stages::after_step_names))]
 fn begin(state: State, records: &mut [u8; RECORDS_SPACE], at: usize, out: &mut [u8]) -> Ended
     ensures state_value { result.state ≡ after_step_names state }
     ensures records_after { records.new ≡ opened_records state.config records.old }
     ensures len_value { result.len ≡ printed_end at row_names out.old }
     ensures out_after { out.new ≡ printed_over at row_names out.old }
 {
-    let config = state.config;
-    nodes::open(config, records);
-    let len = print_names(at, out);
-    let state = State {
-        stage: Stage::Steps,
-        config,
-        ordinal: 1,
-    };
-    Ended { state, len }
+    nodes::open(state.config, records);
+    Ended {
+        state: State {
+            stage: Stage::Steps,
+            ordinal: 1,
+            ..state
+        },
+        len: print_names(at, out),
+    }
 }
 
 // Prints the names line above the step rows, as a row is printed.
@@ -204,10 +207,7 @@ fn print_names(at: usize, out: &mut [u8]) -> usize
     ensures value { result ≡ printed_end at row_names out.old }
     ensures out_after { out.new ≡ printed_over at row_names out.old }
 {
-    if out.len() < ROW_SPACE {
-        return at;
-    }
-    if out.len() - ROW_SPACE < at {
+    if !text::has_room(ROW_SPACE, at, out) {
         return at;
     }
     text::put(b"line act unit answer reason count\n", at, out)
@@ -226,15 +226,12 @@ fn end_step_row(
     ensures len_value { result.len ≡ printed_end at (row_text state.config state.ordinal (row_in (played_nodes state.config) line.now) records.old) out.old }
     ensures out_after { out.new ≡ printed_over at (row_text state.config state.ordinal (row_in (played_nodes state.config) line.now) records.old) out.old }
 {
-    let config = state.config;
-    let read = nodes::play_line(config, state.ordinal, line, records, at, out);
-    if at < read {
-        return Ended {
-            state: after_step_row(state),
-            len: read,
-        };
-    }
-    let len = step::print_unread(state.ordinal, at, out);
+    let read = nodes::play_line(state.config, state.ordinal, line, records, at, out);
+    let len = if at < read {
+        read
+    } else {
+        step::print_unread(state.ordinal, at, out)
+    };
     Ended {
         state: after_step_row(state),
         len,

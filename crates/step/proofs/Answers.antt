@@ -79,6 +79,15 @@ pub answer-wrote : (o : Outcome (protocol.Answer × ℕ)) {at : ℕ} {out : List
     → at + 34 ≤ length out → (stop ≡ at + length (ascii " " ++ answer_text o)) × (after ≡ written at (ascii " " ++ answer_text o) out)
 answer-wrote o p room = p.wrote (omega (arith, answer-length o))
 
+-- an answer's word, with what stands around it, and its count
+pub word-answer : (a : protocol.Answer) (n : ℕ) → (ascii " " ++ (answer_word a ++ ascii " 0 ")) ++ (decimal n ++ ascii "\n") ≡ ascii " " ++ answer_text (done (a, n))
+unfolding ascii
+word-answer announced n = refl
+word-answer kept n = refl
+word-answer signed n = refl
+word-answer delivered n = refl
+word-answer noted n = refl
+
 module _ (ordinal node : ℕ) (act : List ℕ) (three : length act ≡ 3) where
   -- what stands before that,
   front_length : length (decimal ordinal ++ (act ++ decimal node)) ≤ 43

@@ -1,6 +1,6 @@
 -- What a step of a run does at its node (R15.8), and what is printed for it (R16.2, R16.3). A step is one of the calls that RULES section 14 is about.
 -- Assumes nothing.
-use Rattle.std.specs.Prelude.{◌≡◌, Bool, cond, List, ◌++◌, ℕ, ◌+◌, leb, length, replicate}
+use Rattle.std.specs.Prelude.{◌≡◌, Bool, cond, List, ◌++◌, ℕ, ◌+◌, leb, length, replicate, Ok}
 use Rattle.refusal.specs.Outcome.{Outcome, refused, done, ◌and_then◌}
 use Rattle.payload.specs.declared.Payload.{Payload}
 use Rattle.payload.specs.Payload.{bytes}
@@ -8,7 +8,6 @@ use Rattle.config.specs.declared.Config.{Config}
 use Rattle.bundle.specs.Bundle.{bundle_of, header_of_day, bundle_size}
 use Rattle.protocol.specs.Update as protocol
 use Rattle.protocol.specs.Update.{announced, kept, signed, delivered, noted}
-use Rattle.calls.specs.declared.Announcement.TheVariants.{Announced}
 use Rattle.calls.specs.Broadcast.{broadcast, broadcast_records, broadcast_out, announcement_of, announcement_count}
 use Rattle.calls.specs.Receive.{receive, receive_records, receive_out, reported, receipt_of}
 use Rattle.text.specs.Text.{ascii, decimal, written}
@@ -56,7 +55,7 @@ module _ (config : Config) where
   -- what the call answers at the node, with its count
   unfoldable pub answer_of : Step → List ℕ → Outcome (protocol.Answer × ℕ)
   answer_of (step.Broadcast payload) records =
-      broadcast config (bytes payload) records blank_out and_then λ seq. done (announced, announcement_count (Announced seq))
+      broadcast config (bytes payload) records blank_out and_then λ seq. done (announced, announcement_count (Ok seq))
   answer_of (step.Receive sender seq signers payload) records =
       receive config (step_bundle config sender seq signers payload) records blank_out and_then λ result. done (reported result)
 
@@ -69,7 +68,7 @@ module _ (config : Config) where
 
 -- the answer and count that a program's answer stands for, or the number of the refusal
 abbrev pub answered : Answer → Outcome (protocol.Answer × ℕ)
-answered (answer.Broadcast announcement) = announcement_of announcement and_then λ seq. done (announced, announcement_count (Announced seq))
+answered (answer.Broadcast announcement) = announcement_of announcement and_then λ seq. done (announced, announcement_count (Ok seq))
 answered (answer.Receive receipt) = receipt_of receipt
 
 -- ---- what is printed

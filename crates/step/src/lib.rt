@@ -4,12 +4,13 @@
 ghost use Rattle.std.specs.Prelude.{◌≡◌, ◌++◌, ◌+◌, ◌≤◌, length};
 ghost use Rattle.refusal.specs.Outcome.{refused as refused_for};
 ghost use Rattle.refusal.specs.Refusal.{number_of};
+ghost use Rattle.record.specs.Record.{answer_of};
 ghost use Rattle.calls.specs.Receive.{receipt_of};
-ghost use Rattle.text.specs.Text.{ascii, decimal, written};
-ghost use Rattle.step.specs.Step.{AnswersOver, records_over, out_over, Answers, records_by, answered, act_by, answer_text, step_text, unread_text, printed_over, printed_end};
+ghost use Rattle.text.specs.Text.{ascii, written};
+ghost use Rattle.step.specs.Step.{AnswersOver, records_over, out_over, Answers, records_by, answered, act_by, answer_text, answer_word, step_text, unread_text, printed_over, printed_end};
 
 use bundle::Header;
-use calls::{Announcement, Receipt};
+use calls::Receipt;
 use config::Config;
 use refusal::Refusal;
 use row::Step;
@@ -20,8 +21,8 @@ pub const ROW_SPACE: usize = 80;
 // The answer of a step.
 #[derive(Clone, Copy)]
 pub enum Answer {
-    Broadcast(Announcement),
-    Receive(Receipt),
+    Broadcast(Result<u8, Refusal>),
+    Receive(Result<Receipt, Refusal>),
 }
 
 // Plays a step at the node of this configuration, over its records (R15.8). What it sends is not looked at.
@@ -70,24 +71,15 @@ pub fn print(ordinal: u64, node: u8, answer: Answer, at: usize, out: &mut [u8]) 
     ensures value { result ≡ printed_end at (step_text ordinal node (act_by answer) (answered answer)) out.old }
     ensures out_after { out.new ≡ printed_over at (step_text ordinal node (act_by answer) (answered answer)) out.old }
 {
-    if out.len() < ROW_SPACE {
-        return at;
-    }
-    if out.len() - ROW_SPACE < at {
+    if !text::has_room(ROW_SPACE, at, out) {
         return at;
     }
     let a = text::decimal(ordinal, at, out);
+    let b = text::put(act(answer), a, out);
+    let c = text::decimal(u64::from(node), b, out);
     match answer {
-        Answer::Broadcast(announcement) => {
-            let b = text::put(b" A ", a, out);
-            let c = text::decimal(node as u64, b, out);
-            announced(announcement, c, out)
-        }
-        Answer::Receive(receipt) => {
-            let b = text::put(b" B ", a, out);
-            let c = text::decimal(node as u64, b, out);
-            received(receipt, c, out)
-        }
+        Answer::Broadcast(announcement) => announced(announcement, c, out),
+        Answer::Receive(receipt) => received(receipt, c, out),
     }
 }
 
@@ -96,61 +88,60 @@ pub fn print_unread(ordinal: u64, at: usize, out: &mut [u8]) -> usize
     ensures value { result ≡ printed_end at (unread_text ordinal) out.old }
     ensures out_after { out.new ≡ printed_over at (unread_text ordinal) out.old }
 {
-    if out.len() < ROW_SPACE {
-        return at;
-    }
-    if out.len() - ROW_SPACE < at {
+    if !text::has_room(ROW_SPACE, at, out) {
         return at;
     }
     let a = text::decimal(ordinal, at, out);
     text::put(b" - - unread 0 0\n", a, out)
 }
 
+// The act of the step that was answered, between spaces.
+fn act(answer: Answer) -> &'static [u8]
+    ensures { result.now ≡ act_by answer }
+{
+    match answer {
+        Answer::Broadcast(_) => b" A ",
+        Answer::Receive(_) => b" B ",
+    }
+}
+
 // The rest of a row, after its node.
-fn announced(announcement: Announcement, at: usize, out: &mut [u8]) -> usize
+fn announced(announcement: Result<u8, Refusal>, at: usize, out: &mut [u8]) -> usize
     requires { at + 34 ≤ length out.old }
     ensures value { result ≡ at + length (ascii " " ++ answer_text (answered (Answer.Broadcast announcement))) }
     ensures out_after { out.new ≡ written at (ascii " " ++ answer_text (answered (Answer.Broadcast announcement))) out.old }
 {
     match announcement {
-        Announcement::Announced(_) => text::put(b" announced 0 1\n", at, out),
-        Announcement::Refused(reason) => refused(reason, at, out),
+        Ok(_) => text::put(b" announced 0 1\n", at, out),
+        Err(reason) => refused(reason, at, out),
     }
 }
 
-fn received(receipt: Receipt, at: usize, out: &mut [u8]) -> usize
+fn received(receipt: Result<Receipt, Refusal>, at: usize, out: &mut [u8]) -> usize
     requires { at + 34 ≤ length out.old }
     ensures value { result ≡ at + length (ascii " " ++ answer_text (receipt_of receipt)) }
     ensures out_after { out.new ≡ written at (ascii " " ++ answer_text (receipt_of receipt)) out.old }
 {
     match receipt {
-        Receipt::Kept(count) => {
-            let a = text::put(b" kept 0 ", at, out);
-            counted(count, a, out)
+        Ok(receipt) => {
+            let a = text::put(word(receipt.answer), at, out);
+            let b = text::decimal(u64::from(receipt.count), a, out);
+            text::put(b"\n", b, out)
         }
-        Receipt::Signed(count) => {
-            let a = text::put(b" signed 0 ", at, out);
-            counted(count, a, out)
-        }
-        Receipt::Delivered(count) => {
-            let a = text::put(b" delivered 0 ", at, out);
-            counted(count, a, out)
-        }
-        Receipt::Noted(count) => {
-            let a = text::put(b" noted 0 ", at, out);
-            counted(count, a, out)
-        }
-        Receipt::Refused(reason) => refused(reason, at, out),
+        Err(reason) => refused(reason, at, out),
     }
 }
 
-fn counted(count: u32, at: usize, out: &mut [u8]) -> usize
-    requires { at + 21 ≤ length out.old }
-    ensures value { result ≡ at + length (decimal count ++ ascii "\n") }
-    ensures out_after { out.new ≡ written at (decimal count ++ ascii "\n") out.old }
+// The word of an answer, with the space before it and what stands between it and the count.
+fn word(answer: record::Answer) -> &'static [u8]
+    ensures { result.now ≡ ascii " " ++ (answer_word (answer_of answer) ++ ascii " 0 ") }
 {
-    let a = text::decimal(count as u64, at, out);
-    text::put(b"\n", a, out)
+    match answer {
+        record::Answer::Kept => b" kept 0 ",
+        record::Answer::Signed => b" signed 0 ",
+        record::Answer::Delivered => b" delivered 0 ",
+        record::Answer::Noted => b" noted 0 ",
+    }
 }
 
 fn refused(reason: Refusal, at: usize, out: &mut [u8]) -> usize
@@ -159,6 +150,7 @@ fn refused(reason: Refusal, at: usize, out: &mut [u8]) -> usize
     ensures out_after { out.new ≡ written at (ascii " " ++ answer_text (refused_for (number_of reason))) out.old }
 {
     let a = text::put(b" refused ", at, out);
-    let b = text::decimal(refusal::number(reason) as u64, a, out);
+    let number = u32::from(reason);
+    let b = text::decimal(u64::from(number), a, out);
     text::put(b" 0\n", b, out)
 }

@@ -3,10 +3,11 @@
 use mathlib.Core.Path.{◌≡◌, refl, sym, ap, ◌∙◌, subst}
 use mathlib.Core.Bool.{Bool, true, false, cond, ◌||◌, and-eq-true_iff, true≢false}
 use Prim.Native.Nat.{ℕ, zero, suc, ◌+◌, ◌-◌, ◌*◌, ◌/◌, ◌%◌, ◌≤◌, ◌<◌}
-use native.Mathlib.Nat.{le_of_eq, suc-mul, mul-zero, mul-le-mul_right, le-mul_of_pos_right, div-add-mod', mod-lt}
+use native.Mathlib.Nat.{le_of_eq, add-zero, suc-mul, mul-zero, mul-le-mul_right, le-mul_of_pos_right, div-add-mod', mod-lt}
+use native.Mathlib.Numerals.{add-one}
 use native.Mathlib.Omega.{arith}
 use lib.Dec.{leb, ltb, eqb}
-use borrow.Author.Tests.{le-leb, leb-true, ltb-true, ltb-false, eq-eqb, eqb-true, eqb-false}
+use borrow.Author.Tests.{le-leb, leb-true, ltb-true, ltb-false, eq-eqb, eqb-true}
 use Rattle.octets.proofs.ComputedTests.{every, every-says, agree-both}
 use Rattle.summary.specs.DisplayNorm.{distance, twice_off, nearest, first, percent, NoneNearer, EvenOfTwo, OneNearest, PercentOfNone, EndsAreExact, EndsAreTight, Share, shares, SharesHold}
 
@@ -137,14 +138,14 @@ nearest-is-percent n delivered p some near =
 -- ---- the whole part, or the number above it
 
 module _ (n delivered hundredths : ℕ) (some : 0 < n) (counted : hundredths ≡ 100 * delivered) where
-  pub whole-nearest : 2 * (hundredths % n) ≤ n → (2 * (hundredths % n) ≡ n → hundredths / n % 2 ≡ 0) → Nearest n delivered (hundredths / n)
+  whole-nearest : 2 * (hundredths % n) ≤ n → (2 * (hundredths % n) ≡ n → hundredths / n % 2 ≡ 0) → Nearest n delivered (hundredths / n)
   unfolding distance
   whole-nearest low half =
       let parts = div-add-mod' hundredths n in
       let off : twice_off n delivered (hundredths / n) ≡ 2 * (hundredths % n) = omega arith in
       record { close = omega arith; half-even = λ e. half (sym off ∙ e) }
 
-  pub next-nearest : n ≤ 2 * (hundredths % n) → (2 * (hundredths % n) ≡ n → hundredths / n % 2 ≡ 1) → Nearest n delivered (suc (hundredths / n))
+  next-nearest : n ≤ 2 * (hundredths % n) → (2 * (hundredths % n) ≡ n → hundredths / n % 2 ≡ 1) → Nearest n delivered (suc (hundredths / n))
   unfolding distance
   next-nearest high half =
       let parts = div-add-mod' hundredths n in
@@ -159,32 +160,38 @@ module _ (n delivered hundredths : ℕ) (some : 0 < n) (counted : hundredths ≡
       odd-next : hundredths / n % 2 ≡ 1 → suc (hundredths / n) % 2 ≡ 0
       odd-next e = omega arith
 
-module _ (n delivered : ℕ) (some : 0 < n) where
-  abbrev whole : ℕ
-  whole = 100 * delivered / n
+  -- below half of a percent it is the whole part, above it the next number, and half way the even one of the two
+  pub below-nearest : 2 * (hundredths % n) < n → Nearest n delivered (hundredths / n)
+  below-nearest below = whole-nearest (omega arith) (λ half. absurd (omega arith))
 
+  pub above-nearest : n < 2 * (hundredths % n) → Nearest n delivered (hundredths / n + 1)
+  above-nearest above = rw add-one (next-nearest (omega arith) (λ half. absurd (omega arith)))
+
+  pub half-nearest : 2 * (hundredths % n) ≡ n → Nearest n delivered (hundredths / n + hundredths / n % 2)
+  half-nearest half = go (hundredths / n % 2) refl
+    where
+      go : (odd : ℕ) → hundredths / n % 2 ≡ odd → Nearest n delivered (hundredths / n + odd)
+      go zero e = rw add-zero (whole-nearest (omega arith) (λ _. e))
+      go (suc zero) e = rw add-one (next-nearest (omega arith) (λ _. e))
+      go (suc (suc odd)) e = absurd (omega arith)
+
+module _ (n delivered : ℕ) (some : 0 < n) where
   abbrev rest : ℕ
   rest = 100 * delivered % n
 
   percent-nearest : Nearest n delivered (percent n delivered)
-  percent-nearest = go (ltb (2 * rest) n) refl (ltb n (2 * rest)) refl (eqb (whole % 2) 0) refl
+  percent-nearest = go (ltb (2 * rest) n) refl (ltb n (2 * rest)) refl
     where
       is : (p : ℕ) → Nearest n delivered p → Nearest n delivered (percent n delivered)
       is p near = subst (Nearest n delivered) (nearest-is-percent n delivered p some near) near
 
-      go : (a : Bool)
-          → ltb (2 * rest) n ≡ a
-          → (b : Bool)
-          → ltb n (2 * rest) ≡ b
-          → (c : Bool)
-          → eqb (whole % 2) 0 ≡ c
-          → Nearest n delivered (percent n delivered)
-      go true below b above c even = let low = ltb-true (2 * rest) n below in is whole (whole-nearest n delivered _ some refl (omega arith) (λ e. absurd (omega arith)))
-      go false below true above c even = let high = ltb-true n (2 * rest) above in is (suc whole) (next-nearest n delivered _ some refl (omega arith) (λ e. absurd (omega arith)))
-      go false below false above true even = let low = ltb-false n (2 * rest) above in is whole (whole-nearest n delivered _ some refl (omega arith) (λ e. eqb-true _ _ even))
-      go false below false above false even =
+      go : (a : Bool) → ltb (2 * rest) n ≡ a → (b : Bool) → ltb n (2 * rest) ≡ b → Nearest n delivered (percent n delivered)
+      go true below b above = is _ (below-nearest n delivered _ some refl (ltb-true (2 * rest) n below))
+      go false below true above = is _ (above-nearest n delivered _ some refl (ltb-true n (2 * rest) above))
+      go false below false above =
+          let low = ltb-false n (2 * rest) above in
           let high = ltb-false (2 * rest) n below in
-          is (suc whole) (next-nearest n delivered _ some refl (omega arith) (λ e. omega (arith, eqb-false (whole % 2) 0 even)))
+          is _ (half-nearest n delivered _ some refl (omega arith))
 
 -- ---- what is claimed
 

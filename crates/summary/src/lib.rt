@@ -11,7 +11,7 @@ ghost use Rattle.summary.specs.Summary.{slot_text, sender_text, slots_text, summ
 
 use config::{Config, SLOTS};
 use nodes::{NODE_SPACE, RECORDS_SPACE};
-use refusal::Verdict;
+use std::cmp::Ordering;
 
 // Room for any of the rows: four numbers of at most twenty digits, with a byte after each.
 const ROW_SPACE: usize = 84;
@@ -31,16 +31,11 @@ pub fn percent(n: u8, delivered: u8) -> u64
     let hundredths = 100 * (delivered as u64);
     let whole = hundredths / all;
     let twice_rest = 2 * (hundredths % all);
-    if twice_rest < all {
-        return whole;
+    match twice_rest.cmp(&all) {
+        Ordering::Less => whole,
+        Ordering::Equal => whole + whole % 2,
+        Ordering::Greater => whole + 1,
     }
-    if twice_rest > all {
-        return whole + 1;
-    }
-    if whole % 2 == 0 {
-        return whole;
-    }
-    whole + 1
 }
 
 // Prints the names line (R16.1) and the rows over `out` from index `at` on, and answers where they end. A
@@ -49,10 +44,7 @@ pub fn print(config: Config, records: &[u8; RECORDS_SPACE], at: usize, out: &mut
     ensures value { result ≡ summary_end at (summary_text config (shown_count config records.now)) out.old }
     ensures out_after { out.new ≡ summary_over at (summary_text config (shown_count config records.now)) out.old }
 {
-    if out.len() < SPACE {
-        return at;
-    }
-    if out.len() - SPACE < at {
+    if !text::has_room(SPACE, at, out) {
         return at;
     }
     let start = text::put(b"sender number units percent\n", at, out);
@@ -60,59 +52,50 @@ pub fn print(config: Config, records: &[u8; RECORDS_SPACE], at: usize, out: &mut
 }
 
 // The rows, by sender.
-fn rows(config: Config, records: &[u8], at: usize, out: &mut [u8]) -> usize
-    requires records_len { length records.now ≡ records_space }
-    requires slots_in_bounds { at + slot_space * slots * 256 ≤ length out.old }
+fn rows(config: Config, records: &[u8; RECORDS_SPACE], at: usize, out: &mut [u8]) -> usize
+    requires { at + slot_space * slots * 256 ≤ length out.old }
     ensures value { result ≡ at + length (slots_text config (shown_count config records.now)) }
     ensures out_after { out.new ≡ written at (slots_text config (shown_count config records.now)) out.old }
 {
     let mut end = at;
-    let mut sender = 0;
-    while sender < config.n {
+    for sender in 0..config.n {
         end = sender_rows(config, sender, records, end, out);
-        sender += 1;
     }
     end
 }
 
 // The rows of a sender, by seq.
-fn sender_rows(config: Config, sender: u8, records: &[u8], at: usize, out: &mut [u8]) -> usize
-    requires records_len { length records.now ≡ records_space }
-    requires slots_in_bounds { at + slot_space * slots ≤ length out.old }
+fn sender_rows(
+    config: Config,
+    sender: u8,
+    records: &[u8; RECORDS_SPACE],
+    at: usize,
+    out: &mut [u8],
+) -> usize
+    requires { at + slot_space * slots ≤ length out.old }
     ensures value { result ≡ at + length (sender_text config (shown_count config records.now) sender) }
     ensures out_after { out.new ≡ written at (sender_text config (shown_count config records.now) sender) out.old }
 {
     let mut end = at;
-    let mut seq = 0;
-    while seq < SLOTS {
+    for seq in 0..SLOTS {
         let delivered = shown(config, sender, seq, records);
         end = slot_row(config.n, sender, seq, delivered, end, out);
-        seq += 1;
     }
     end
 }
 
 // How many nodes show a payload in a slot: those that have delivered it.
-fn shown(config: Config, sender: u8, seq: u8, records: &[u8]) -> u8
-    requires { length records.now ≡ records_space }
+fn shown(config: Config, sender: u8, seq: u8, records: &[u8; RECORDS_SPACE]) -> u8
     ensures { result ≡ shown_count config records.now sender seq }
 {
-    let n = nodes::played(config);
     let size = config.records_size();
     let mut count = 0;
-    let mut node = 0;
-    while node < n {
+    for node in 0..nodes::played(config) {
         let start = NODE_SPACE * (node as usize);
-        let verdict = calls::check_delivered(
-            config.with_own(node),
-            sender,
-            seq,
-            &records[start..start + size],
-        );
-        if let Verdict::Done = verdict {
+        let own = &records[start..start + size];
+        if calls::check_delivered(config.with_own(node), sender, seq, own).is_ok() {
             count += 1;
         }
-        node += 1;
     }
     count
 }

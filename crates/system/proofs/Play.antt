@@ -8,10 +8,11 @@ use Prim.Native.Nat.{ℕ}
 use native.Mathlib.Decide.{ℕ_discrete}
 use Rattle.octets.proofs.ComputedTests.{every, every-says}
 use Rattle.refusal.specs.Outcome.{done, ◌and_then◌}
-use Rattle.refusal.proofs.Unique.{by_number, reason_of}
+use Rattle.refusal.proofs.Unique.{by_number, reason_of, result_from}
 use Rattle.calls.specs.Broadcast.{broadcast}
 use Rattle.calls.specs.Receive.{receive, reported}
-use Rattle.calls.proofs.Unique.{announcement, receipt-of, receipt, announcement-back, receipt-back}
+use Rattle.calls.proofs.Unique.{announcement, receipt, announcement-back, receipt-back}
+use Rattle.record.proofs.Unique.{answer_from}
 use Rattle.system.specs.Demand3.{config_at, buffer}
 use Rattle.system.specs.Play.{play_config, play_system, play_payload, PlayStep, A, B, play_out, play_bundle, PlayRow, AnswerWord-discrete, PlayRow-discrete, announcement_row, receipt_row, play_steps, PlayLine, follow, play_lines, Shows, LinesHold}
 use Rattle.system.proofs.Computing.{calls-compute}
@@ -46,7 +47,7 @@ row-test : (l : PlayLine) → Dec (line_row l ≡ l.row)
 row-test l = PlayRow-discrete AnswerWord-discrete ℕ_discrete (line_row l) l.row
 
 all_hold : every (λ l. decided (row-test l)) play_lines ≡ true
-unfolding decided row-test line_row answer-row announcement receipt receipt-of reason_of by_number ℕ_discrete play_config play_system play_payload play_bundle play_steps follow play_lines calls-compute
+unfolding decided row-test line_row answer-row result_from answer_from reason_of by_number ℕ_discrete play_config play_system play_payload play_bundle play_steps follow play_lines calls-compute
 all_hold = refl
 
 pub lines-hold : LinesHold

@@ -1,15 +1,16 @@
 -- The first run, R16.5, step by step, and what is claimed of each of its seven lines as a fact that ranges over them (R17.6). It is proved in proofs/Play.antt.
 -- Assumes nothing.
-use Rattle.std.specs.Prelude.{◌≡◌, false, ℕ, suc, replicate}
+use Rattle.std.specs.Prelude.{◌≡◌, false, ℕ, suc, replicate, Result, Ok, Err}
 use mathlib.Core.List.{List, [], ◌∷◌, Memᴰ}
+use Rattle.refusal.specs.declared.Refusal.{Refusal}
 use Rattle.refusal.specs.Refusal.{number_of}
 use Rattle.refusal.specs.Outcome.{done, ◌and_then◌}
 use Rattle.config.specs.declared.Config.{Config}
 use Rattle.config.specs.Config.{config_for, records_size}
 use Rattle.bundle.specs.Bundle.{bundle_size, bundle_of, header_of_day}
 use Rattle.protocol.specs.Trace.{Trace, start, ◌then◌calls◌}
-use Rattle.calls.specs.declared.Announcement as Announcement
-use Rattle.calls.specs.declared.Receipt as Receipt
+use Rattle.record.specs.declared.Answer as Answer
+use Rattle.calls.specs.declared.Receipt.{Receipt}
 use Rattle.calls.specs.Broadcast.{broadcast, announcement_of, announcement_count}
 use Rattle.calls.specs.Receive.{receive, reported, receipt_of, receipt_count}
 use Rattle.system.specs.Demand3.{Call, Open, Broadcast, Receive, System, config_at, buffer}
@@ -55,16 +56,20 @@ pub data PlayRow : Type 0 where
   deriving Discrete as PlayRow-discrete
 
 -- the row of each answer; its count is the one that goes with the answer
-abbrev pub announcement_row : Announcement.Announcement → PlayRow
-announcement_row (Announcement.TheVariants.Announced seq) = play_row Announced 0 (announcement_count (Announcement.TheVariants.Announced seq))
-announcement_row (Announcement.TheVariants.Refused reason) = play_row Refused (number_of reason) (announcement_count (Announcement.TheVariants.Refused reason))
+abbrev pub announcement_row : Result ℕ Refusal → PlayRow
+announcement_row (Ok seq) = play_row Announced 0 (announcement_count (Ok seq))
+announcement_row (Err reason) = play_row Refused (number_of reason) (announcement_count (Err reason))
 
-abbrev pub receipt_row : Receipt.Receipt → PlayRow
-receipt_row (Receipt.TheVariants.Kept count) = play_row Kept 0 (receipt_count (Receipt.TheVariants.Kept count))
-receipt_row (Receipt.TheVariants.Signed count) = play_row Signed 0 (receipt_count (Receipt.TheVariants.Signed count))
-receipt_row (Receipt.TheVariants.Delivered count) = play_row Delivered 0 (receipt_count (Receipt.TheVariants.Delivered count))
-receipt_row (Receipt.TheVariants.Noted count) = play_row Noted 0 (receipt_count (Receipt.TheVariants.Noted count))
-receipt_row (Receipt.TheVariants.Refused reason) = play_row Refused (number_of reason) (receipt_count (Receipt.TheVariants.Refused reason))
+-- the word of each answer of receiving
+abbrev pub word_of : Answer.Answer → AnswerWord
+word_of Answer.TheVariants.Kept = Kept
+word_of Answer.TheVariants.Signed = Signed
+word_of Answer.TheVariants.Delivered = Delivered
+word_of Answer.TheVariants.Noted = Noted
+
+abbrev pub receipt_row : Result Receipt Refusal → PlayRow
+receipt_row (Ok receipt) = play_row (word_of receipt.answer) 0 (receipt_count (Ok receipt))
+receipt_row (Err reason) = play_row Refused (number_of reason) (receipt_count (Err reason))
 
 -- a step with its node and the row that is printed for it
 abbrev pub step_at : (node : ℕ) (step : PlayStep) (answer : AnswerWord) (reason count : ℕ) → ℕ × PlayStep × PlayRow
@@ -103,9 +108,9 @@ play_lines = follow 1 (start then 0 calls Open then 1 calls Open then 2 calls Op
 -- a step at a node that finds the buffer `records`: every answer that the contract of its call allows has the row `shown`
 abbrev pub Shows : (node : ℕ) (step : PlayStep) (records : List ℕ) (shown : PlayRow) → Type 0
 Shows node A records shown =
-    (a : Announcement.Announcement) → announcement_of a ≡ broadcast (config_at play_system node) play_payload records play_out → announcement_row a ≡ shown
+    (a : Result ℕ Refusal) → announcement_of a ≡ broadcast (config_at play_system node) play_payload records play_out → announcement_row a ≡ shown
 Shows node (B signers) records shown =
-    (a : Receipt.Receipt) → receipt_of a ≡ (receive (config_at play_system node) (play_bundle signers) records play_out and_then λ result. done (reported result))
+    (a : Result Receipt Refusal) → receipt_of a ≡ (receive (config_at play_system node) (play_bundle signers) records play_out and_then λ result. done (reported result))
     → receipt_row a ≡ shown
 
 -- a line holds if its step, after the calls before it, shows the line's row

@@ -2,17 +2,17 @@
 -- that they can be written from the last one on. From the definitions of specs/Text.antt, for numbers of at most twenty digits where it matters.
 -- Assumes nothing.
 use mathlib.Core.Path.{◌≡◌, refl, sym, ap, ◌∙◌, subst}
-use mathlib.Core.Bool.{Bool, true, false, not, cond, and-eq-true_iff}
-use mathlib.Core.List.{List, [], ◌∷◌, ◌++◌}
-use Prim.Native.Nat.{ℕ, zero, suc, ◌+◌, ◌-◌, ◌*◌, ◌/◌, ◌%◌, ◌^◌, ◌≤◌, ◌<◌}
-use native.Mathlib.Nat.{suc-add, pow-succ', mod-lt, mod-eq_of_lt}
+use mathlib.Core.Bool.{Bool, true, false, not, and-eq-true_iff}
+use mathlib.Core.List.{List, [], ◌∷◌, ◌++◌, append_assoc, append-nil}
+use Prim.Native.Nat.{ℕ, zero, suc, ◌+◌, ◌-◌, ◌*◌, ◌/◌, ◌%◌, ◌^◌, ◌≤◌, ◌<◌, zero-le, max}
+use native.Mathlib.Nat.{suc-add, pow-succ', pow-le-pow_right, mod-lt, mod-eq_of_lt, le_refl}
 use native.Mathlib.Numerals.{add-one}
 use native.Mathlib.Omega.{arith}
 use lib.Dec.{ltb, eqb, lit<}
-use lib.ListN.{length, take, drop, set, length-append}
+use lib.ListN.{length, drop, set, length-append, drop_of_length-le}
 use borrow.Author.Tests.{lt-ltb, le-ltb, le-leb, ltb-true, ltb-false, ne_eqb}
-use Rattle.text.specs.Text.{only, digit, digit_value, value, empty, plain_number, spelled, decimal, written}
-use Rattle.text.proofs.WriteLaws.{written_of, written-empty, written_one, written-ahead}
+use Rattle.std.proofs.lemmas.List.{drop-set}
+use Rattle.text.specs.Text.{only, digit, digit_value, value, empty, plain_number, spelled, decimal}
 
 -- ---- digit by digit
 
@@ -80,68 +80,29 @@ decimal-short x =
     spelled-all (λ (k y : ℕ) (ys : List ℕ). length ys ≤ k) (λ y. omega arith) (λ k y h. omega arith)
     (λ k y ys h l. simp length-append (omega arith)) 20 x
 
--- how many stand ahead of those that are taken away, by what is left of the number then: nothing has none
-unfoldable pub ahead : ℕ → ℕ → ℕ
-ahead k x = cond (ltb 0 x) (length (spelled k x)) 0
-
-ahead_none : (k : ℕ) → ahead k 0 ≡ 0
-unfolding ahead
-ahead_none k = refl
-
--- there is the last one, and there are those ahead of it,
-length-spelled : (k x : ℕ) → length (spelled (suc k) x) ≡ suc (ahead k (x / 10))
-unfolding ahead
-length-spelled k x = go (ltb x 10) refl
-  where
-    go : (b : Bool) → ltb x 10 ≡ b → length (spelled (suc k) x) ≡ suc (ahead k (x / 10))
-    go true e =
-        let h : x < 10 = ltb-true x 10 e in
-        let z : x / 10 ≡ 0 = omega arith in
-        ap length (spelled-digit k x h) ∙ rw z
-    go false e =
-        let h : 10 ≤ x = ltb-false x 10 e in
-        let p : 0 < x / 10 = omega arith in
-        ap length (spelled_step k x h) ∙ rw (lt-ltb 0 (x / 10) p) (simp length-append (omega arith))
-
--- and so on for those
-ahead_step : (k x : ℕ) → 0 < x → ahead (suc k) x ≡ suc (ahead k (x / 10))
-unfolding ahead
-ahead_step k x h = rw (lt-ltb 0 x h) (length-spelled k x)
-
 -- at least one
 pub decimal-some : (x : ℕ) → 0 < length (decimal x)
 unfolding decimal
-decimal-some x = omega (arith, length-spelled 19 x)
+decimal-some x =
+    spelled-all (λ (k y : ℕ) (ys : List ℕ). 0 < k → 0 < length ys) (λ y l. l) (λ k y h l. omega arith)
+    (λ k y ys h below l. simp length-append (omega arith)) 20 x (omega arith)
 
--- so they are counted one by one: k of them are, and this is left of the number,
-pub record Counted (n k left : ℕ) : Type 0 where
-  pub few : k ≤ 20
-  pub below : left < 10 ^ (20 - k)
-  pub total : length (decimal n) ≡ k + ahead (20 - k) left
+-- one more than the power of ten that the number reaches
+spelled-count : (k j x : ℕ) → (0 < k → 10 ^ k ≤ x) → x < 10 ^ suc k → k < j → length (spelled j x) ≡ suc k
+spelled-count k zero x least less h = absurd (omega arith)
+spelled-count zero (suc j) x least less h = ap length (spelled-digit j x less)
+spelled-count (suc k) (suc j) x least less h =
+    let power : 10 ^ suc k ≡ 10 * 10 ^ k = pow-succ' 10 k in
+    let some : 10 ^ 0 ≤ 10 ^ k = pow-le-pow_right (lit< tt) zero-le in
+    let ten : 10 ≤ x = omega (arith, least (omega arith)) in
+    ap length (spelled_step j x ten)
+    ∙ simp length-append (omega (arith, spelled-count k j (x / 10) (λ l. omega (arith, least (omega arith))) (tenth-lt (suc k) x less) (omega arith)))
 
--- the first,
-pub counted-one : (n : ℕ) → n < 10 ^ 20 → Counted n 1 (n / 10)
+pub decimal-count : (k x : ℕ) → 10 ^ k ≤ max x 1 → max x 1 < 10 * 10 ^ k → k < 20 → length (decimal x) ≡ suc k
 unfolding decimal
-counted-one n h = record { few = omega arith; below = tenth-lt 19 n h; total = omega (arith, length-spelled 19 n) }
-
--- each further one,
-pub counted-more : (n k left : ℕ) → 0 < left → Counted n k left → Counted n (k + 1) (left / 10)
-counted-more n k left p c = go (20 - k) refl
-  where
-    go : (j : ℕ) → 20 - k ≡ j → Counted n (k + 1) (left / 10)
-    go zero e = absurd (omega (arith, rw e at c.below))
-    go (suc j) e =
-        let f : 20 - (k + 1) ≡ j = omega (arith, c.few) in
-        record {
-          few = omega arith;
-          below = rw f (tenth-lt j left (rw e at c.below));
-          total = rw f (omega (arith, rw e at c.total, ahead_step j left p));
-        }
-
--- until nothing is left
-pub counted-all : (n k left : ℕ) → left ≤ 0 → Counted n k left → k ≡ length (decimal n)
-counted-all n k zero h c = omega (arith, c.total, ahead_none (20 - k))
-counted-all n k (suc left) h c = absurd (omega arith)
+decimal-count k x least less h =
+    let power : 10 ^ suc k ≡ 10 * 10 ^ k = pow-succ' 10 k in
+    spelled-count k 20 x (λ l. let ten : 10 ^ 1 ≤ 10 ^ k = pow-le-pow_right (lit< tt) l in omega arith) (omega arith) h
 
 -- ---- what they are
 
@@ -231,33 +192,20 @@ decimal-last x =
     (λ j y h. ap (λ (d : ℕ). (48 + d) ∷ []) (sym (mod-eq_of_lt h)))
     (λ j y ys l h. ap (λ (r : List ℕ). r ++ ((48 + y % 10) ∷ [])) h ∙ ap (λ (n : ℕ). last_digits n y) (sym (length-append ys _ ∙ add-one (length ys)))) 20 x
 
-length_last : (k x : ℕ) → length (last_digits k x) ≡ k
+-- and those that are still to be written stand before those that are written already: the last of them is written next,
+pub last_before : (k x : ℕ) (out : List ℕ) → 0 < k → k ≤ length out
+    → last_digits (k - 1) (x / 10) ++ drop (k - 1) (set out (k - 1) (48 + x % 10)) ≡ last_digits k x ++ drop k out
 unfolding last_digits
-length_last zero x = refl
-length_last (suc k) x = length-append (last_digits k (x / 10)) _ ∙ add-one _ ∙ ap suc (length_last k (x / 10))
-
--- the last of them can be written first
-pub written_last : (at k x : ℕ) (out : List ℕ) → 0 < k → at + k ≤ length out
-    → written at (last_digits (k - 1) (x / 10)) (set out (at + (k - 1)) (48 + x % 10)) ≡ written at (last_digits k x) out
-unfolding last_digits
-written_last at zero x out p h = absurd (omega arith)
-written_last at (suc k) x out p h =
-    let front : List ℕ = last_digits k (x / 10) in
-    let long : length front ≡ k = length_last k (x / 10) in
+last_before zero x out p h = absurd (omega arith)
+last_before (suc k) x out p h =
     let back : suc k - 1 ≡ k = omega arith in
-    let room : at + length (front ++ ((48 + x % 10) ∷ [])) ≤ length out = simp (length-append, long) (omega arith) in
-    rw (back, written_one (at + k) (48 + x % 10) out (omega arith))
-    (ap (λ (m : ℕ). written at front (written (at + m) ((48 + x % 10) ∷ []) out)) (sym long) ∙ written-ahead at front ((48 + x % 10) ∷ []) out room)
+    rw (back, drop-set out k (48 + x % 10) (omega arith), add-one k) (sym (append_assoc (last_digits k (x / 10)) ((48 + x % 10) ∷ []) (drop (suc k) out)))
 
--- until none is left
-pub written_none : (at k x : ℕ) (out : List ℕ) → k ≤ 0 → written at (last_digits k x) out ≡ out
+-- at first all of the number is to be written,
+pub last-all : (x : ℕ) (out : List ℕ) → length out ≡ length (decimal x) → last_digits (length out) x ++ drop (length out) out ≡ decimal x
+last-all x out long = rw (drop_of_length-le out {i = length out} (le_refl (length out)), long, ← decimal-last x, append-nil)
+
+-- and in the end it is written
+pub last_none : (x : ℕ) (out : List ℕ) → last_digits 0 x ++ drop 0 out ≡ out
 unfolding last_digits
-written_none at zero x out h = written-empty at out
-written_none at (suc k) x out h = absurd (omega arith)
-
--- and the number stands there
-pub written-digits : (at k x : ℕ) (out : List ℕ) → k ≡ length (decimal x) → at + k ≤ length out
-    → written at (last_digits k x) out ≡ take at out ++ (decimal x ++ drop (at + k) out)
-written-digits at k x out e h =
-    ap (λ (n : ℕ). written at (last_digits n x) out) e ∙ ap (λ (r : List ℕ). written at r out) (sym (decimal-last x))
-    ∙ written_of at k (decimal x) out e h
+last_none x out = refl

@@ -10,18 +10,14 @@ use lib.Dec.{leb, lit<}
 use lib.ListN.{length, take, drop, length-drop, drop_of_length-le}
 use lib.Seq.{take_all, drop-drop}
 use borrow.Author.Tests.{leb-true}
+use Rattle.std.specs.Prelude.{Option, Some, None}
+use Rattle.std.proofs.lemmas.Option.{none-some, some_pair_parts}
 use Rattle.text.specs.Text.{space, before, first_field, rest_after_field, after_fields, field, value, plain_number, plain_up_to, number_at}
-use Rattle.text.specs.declared.Number.{Number}
-use Rattle.text.specs.declared.Number.TheVariants.{Plain, NotPlain}
 use Rattle.text.proofs.Fields.{before-le, first-whole, first-length, plain-none}
 
 -- the part of a text from some index to its end
 pub part_end : (start : ℕ) (text : List ℕ) → take (length text - start) (drop start text) ≡ drop start text
 part_end start text = take_all (length text - start) (drop start text) (omega (arith, length-drop start text))
-
--- and a part of k bytes
-pub part-from : (start k : ℕ) (text : List ℕ) → take (start + k - start) (drop start text) ≡ take k (drop start text)
-part-from start k text = ap (λ (j : ℕ). take j (drop start text)) (let same : start + k - start ≡ k = omega arith in same)
 
 -- the text after its first k fields starts at an index
 pub record Starts (k at : ℕ) (text : List ℕ) : Type 0 where
@@ -72,30 +68,36 @@ pub record NumberRead (limit k : ℕ) (text : List ℕ) (v next : ℕ) : Type 0 
   pub ends : field k text ≡ after_fields k text → next ≡ length text + 1
 
 -- the answer that there is a number, and that there is none
-number-says : (limit : ℕ) (text : List ℕ) (at v next : ℕ) → number_at limit text at ≡ Plain v next
+number-says : (limit : ℕ) (text : List ℕ) (at v next : ℕ) → number_at limit text at ≡ Some (v, next)
     → (plain_up_to limit (first_field (drop at text)) ≡ true) × (value 10 0 (first_field (drop at text)) ≡ v) × (at + length (first_field (drop at text)) + 1 ≡ next)
 unfolding number_at
 number-says limit text at v next e = go (plain_up_to limit (first_field (drop at text))) refl e
   where
     go : (t : Bool) → plain_up_to limit (first_field (drop at text)) ≡ t
-        → cond t (Plain (value 10 0 (first_field (drop at text))) (at + length (first_field (drop at text)) + 1)) NotPlain ≡ Plain v next
+        → cond {A = Option (ℕ × ℕ)} t (Some (value 10 0 (first_field (drop at text)), at + length (first_field (drop at text)) + 1)) None ≡ Some (v, next)
         → (plain_up_to limit (first_field (drop at text)) ≡ true)
         × (value 10 0 (first_field (drop at text)) ≡ v)
         × (at + length (first_field (drop at text)) + 1 ≡ next)
-    go true plain h = (plain, (cc), (cc))
-    go false plain h = absurd (let z : ◌≡◌ {A = ℕ} 0 1 = cc in omega arith)
+    go true plain h = let (is, sum) = some_pair_parts _ _ _ _ h in (plain, is, sum)
+    go false plain h = absurd (none-some _ h)
 
-number-denies : (limit : ℕ) (text : List ℕ) (at : ℕ) → number_at limit text at ≡ NotPlain → plain_up_to limit (first_field (drop at text)) ≡ false
+number-denies : (limit : ℕ) (text : List ℕ) (at : ℕ) → number_at limit text at ≡ None → plain_up_to limit (first_field (drop at text)) ≡ false
 unfolding number_at
 number-denies limit text at e = go (plain_up_to limit (first_field (drop at text))) e
   where
-    go : (t : Bool) → cond t (Plain (value 10 0 (first_field (drop at text))) (at + length (first_field (drop at text)) + 1)) NotPlain ≡ NotPlain → t ≡ false
+    go : (t : Bool) → cond {A = Option (ℕ × ℕ)} t (Some (value 10 0 (first_field (drop at text)), at + length (first_field (drop at text)) + 1)) None ≡ None → t ≡ false
     go true h = cc
     go false h = refl
 
+-- a number that is read is at most its limit
+pub number-within : (limit : ℕ) (text : List ℕ) (at v next : ℕ) → number_at limit text at ≡ Some (v, next) → v ≤ limit
+number-within limit text at v next e =
+    let (plain, is, sum) = number-says limit text at v next e in
+    omega (arith, plain-within limit (first_field (drop at text)) plain)
+
 -- so, of a field that starts at index `at`: it is the number that was read there,
-module _ (limit : ℕ) {k at : ℕ} {text : List ℕ} {read : Number} (start : Starts k at text) (reader : read ≡ number_at limit text at) where
-  pub number_read : {v next : ℕ} → read ≡ Plain v next → NumberRead limit k text v next
+module _ (limit : ℕ) {k at : ℕ} {text : List ℕ} {read : Option (ℕ × ℕ)} (start : Starts k at text) (reader : read ≡ number_at limit text at) where
+  pub number_read : {v next : ℕ} → read ≡ Some (v, next) → NumberRead limit k text v next
   unfolding after_fields rest_after_field
   number_read {v} {next} e =
       let (plain, is, sum) = number-says limit text at v next (sym reader ∙ e) in
@@ -120,23 +122,23 @@ module _ (limit : ℕ) {k at : ℕ} {text : List ℕ} {read : Number} (start : S
       }
 
   -- or no number of at most the limit
-  pub number-missing : read ≡ NotPlain → plain_up_to limit (field k text) ≡ true → ⊥
+  pub number-missing : read ≡ None → plain_up_to limit (field k text) ≡ true → ⊥
   number-missing e plain = true≢false (sym (rw start.here at plain) ∙ number-denies limit text at (sym reader ∙ e))
 
 -- ---- the number at the start of a part of a text is the number at the index at which the part starts
 
 module _ (limit : ℕ) (text : List ℕ) (at : ℕ) where
   -- after the end there is none,
-  pub number-beyond : length text ≤ at → number_at limit text at ≡ NotPlain
+  pub number-beyond : length text ≤ at → number_at limit text at ≡ None
   unfolding number_at first_field before
   number-beyond h = rw (drop_of_length-le text {i = at} h, empty-plain limit)
 
-  pub none-shifted : number_at limit (drop at text) 0 ≡ NotPlain → number_at limit text at ≡ NotPlain
+  pub none-shifted : number_at limit (drop at text) 0 ≡ None → number_at limit text at ≡ None
   unfolding number_at
   none-shifted e = rw (number-denies limit (drop at text) 0 e)
 
-  pub number-shifted : (v next : ℕ) → number_at limit (drop at text) 0 ≡ Plain v next → number_at limit text at ≡ Plain v (at + next)
+  pub number-shifted : (v next : ℕ) → number_at limit (drop at text) 0 ≡ Some (v, next) → number_at limit text at ≡ Some (v, at + next)
   unfolding number_at
   number-shifted v next e =
       let (plain, is, sum) = number-says limit (drop at text) 0 v next e in
-      rw (plain, is) (ap (Plain v) (omega arith))
+      rw (plain, is) (ap (λ (n : ℕ). Some (v, n)) (omega arith))

@@ -10,8 +10,7 @@ use lib.ListN.{length, take, drop, length-drop, take-append-drop}
 use lib.Seq.{length-take-le}
 use borrow.Author.Tests.{eqb-true, eq-eqb}
 use Rattle.text.specs.Text.{value, only, hex_digit, hex, word_in}
-use Rattle.text.specs.declared.Word.{Word}
-use Rattle.text.specs.declared.Word.TheVariants.{Hex, NotHex}
+use Rattle.std.specs.Prelude.{Option, Some, None}
 use Rattle.text.proofs.Fields.{only-append}
 
 -- k digits are k bytes
@@ -34,16 +33,16 @@ pub hex-both : (xs : List ℕ) → length xs ≡ 32 → hex 32 xs ≡ true → (
 hex-both xs l e = (and-eq-true_iff (hex 16 (take 16 xs)) (hex 16 (drop 16 xs))).0 (sym (hex-halves xs l) ∙ e)
 
 -- what the reader of a word says: the 16 digits write a word,
-module _ (xs : List ℕ) {read : Word} (reader : read ≡ word_in xs) where
-  pub word_read : (w : ℕ) → read ≡ Hex w → (hex 16 xs ≡ true) × (value 16 0 xs ≡ w)
+module _ (xs : List ℕ) {read : Option ℕ} (reader : read ≡ word_in xs) where
+  pub word_read : (w : ℕ) → read ≡ Some w → (hex 16 xs ≡ true) × (value 16 0 xs ≡ w)
   unfolding word_in
   word_read w e = go (hex 16 xs) refl (sym reader ∙ e)
     where
-      go : (t : Bool) → hex 16 xs ≡ t → cond t (Hex (value 16 0 xs)) NotHex ≡ Hex w → (hex 16 xs ≡ true) × (value 16 0 xs ≡ w)
+      go : (t : Bool) → hex 16 xs ≡ t → cond t (Some (value 16 0 xs)) None ≡ Some w → (hex 16 xs ≡ true) × (value 16 0 xs ≡ w)
       go true f h = (f, (cc))
       go false f h = absurd (let z : ◌≡◌ {A = ℕ} 0 1 = cc in omega arith)
 
   -- or they are not such digits
-  pub word-missing : read ≡ NotHex → hex 16 xs ≡ true → ⊥
+  pub word-missing : read ≡ None → hex 16 xs ≡ true → ⊥
   unfolding word_in
-  word-missing e digits = let z : ◌≡◌ {A = ℕ} 0 1 = (let both = sym reader ∙ e in cc (ap (λ (t : Bool). cond t (Hex (value 16 0 xs)) NotHex) digits)) in omega arith
+  word-missing e digits = let z : ◌≡◌ {A = ℕ} 0 1 = (let both = sym reader ∙ e in cc (ap (λ (t : Bool). cond t (Some (value 16 0 xs)) None) digits)) in omega arith

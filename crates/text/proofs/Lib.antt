@@ -1,4 +1,5 @@
 -- Laws of this crate that belong to no one function.
+pub mod Bytewise
 pub mod Fields
 pub mod FieldPositions
 pub mod DigitValues

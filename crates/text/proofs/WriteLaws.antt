@@ -3,13 +3,13 @@
 -- Assumes nothing.
 use mathlib.Core.Path.{◌≡◌, refl, sym, ap, ap₂, ◌∙◌}
 use mathlib.Core.Bool.{Bool, true, false, cond}
-use mathlib.Core.List.{List, [], ◌∷◌, ◌++◌, append_assoc}
-use Prim.Native.Nat.{ℕ, ◌+◌, ◌≤◌, ◌<◌}
+use mathlib.Core.List.{List, [], ◌++◌, append_assoc}
+use Prim.Native.Nat.{ℕ, ◌+◌, ◌-◌, ◌≤◌, ◌<◌}
 use native.Mathlib.Nat.{add-zero}
-use native.Mathlib.Numerals.{add-one}
 use native.Mathlib.Omega.{arith}
-use lib.ListN.{length, get_or, set, take, drop, length-append, length-drop, take-append-drop}
-use lib.Seq.{length-take-le, take-append_seam, take_at, drop_at, drop-append-add, drop-drop, take-take, take-suc, set_split}
+use lib.ListN.{length, take, drop, length-append, length-drop, take-append-drop}
+use lib.Seq.{length-take-le, take-append_seam, take_at, drop_at, drop-append-add, drop-drop}
+use borrow.Rule.Slice.PartMut.{put_mid}
 use borrow.Author.Tests.{le-leb, lt-leb, leb-true, leb-false}
 use Rattle.text.specs.Text.{has_room, written, end}
 
@@ -64,10 +64,12 @@ module _ (at : ℕ) (text out : List ℕ) (room : at + length text ≤ length ou
   length-with-room : length (written at text out) ≡ length out
   length-with-room = ap length written-seam ∙ simp (length-append (take at out ++ text), length_front, length-drop) (omega arith)
 
--- the same, where the text's length is known by an equation
+-- the same, where the text's length is known by an equation, and the text is what a part of the buffer holds then
 module _ (at k : ℕ) (text out : List ℕ) (long : k ≡ length text) (room : at + k ≤ length out) where
-  pub written_of : written at text out ≡ take at out ++ (text ++ drop (at + k) out)
-  written_of = written-with-room at text out (omega arith) ∙ ap (λ (n : ℕ). take at out ++ (text ++ drop (at + n) out)) (sym long)
+  pub written_over : put_mid at (at + k - at) out text ≡ written at text out
+  written_over =
+      let size : at + k - at ≡ length text = omega arith in
+      rw (size, drop-drop (length text) at out) (sym (written-with-room at text out (omega arith)))
 
   pub end_of : end at text out ≡ at + k
   end_of = end-with-room at text out (omega arith) ∙ ap (λ (n : ℕ). at + n) (sym long)
@@ -96,11 +98,6 @@ pub end_empty : (at : ℕ) (out : List ℕ) → end at [] out ≡ at
 unfolding end
 end_empty at out = either (has_room at [] out) _ at (add-zero at)
 
--- one byte is a store
-pub written_one : (at d : ℕ) (out : List ℕ) → at < length out → set out at d ≡ written at (d ∷ []) out
-written_one at d out h =
-    set_split out at d h ∙ ap (λ (k : ℕ). take at out ++ (d ∷ drop k out)) (sym (add-one at)) ∙ sym (written-with-room at (d ∷ []) out (omega arith))
-
 module _ (at : ℕ) (xs ys out : List ℕ) (room : at + length (xs ++ ys) ≤ length out) where
   both : length (xs ++ ys) ≡ length xs + length ys
   both = length-append xs ys
@@ -112,7 +109,7 @@ module _ (at : ℕ) (xs ys out : List ℕ) (room : at + length (xs ++ ys) ≤ le
       ∙ ap (λ (k : ℕ). take at out ++ ((xs ++ ys) ++ drop k out)) last
       ∙ sym (written-with-room at (xs ++ ys) out room)
 
-  -- two texts, one after the other, are one,
+  -- two texts, one after the other, are one
   pub written_then : written (at + length xs) ys (written at xs out) ≡ written at (xs ++ ys) out
   written_then =
       let first : at + length xs ≤ length out = omega (arith, both) in
@@ -121,31 +118,3 @@ module _ (at : ℕ) (xs ys out : List ℕ) (room : at + length (xs ++ ys) ≤ le
       ∙ ap₂ (λ (p q : List ℕ). p ++ (ys ++ q)) (written-prefix at xs out first) (written_after at xs out first (length ys))
       ∙ append_assoc (take at out) xs (ys ++ drop (at + length xs + length ys) out)
       ∙ written_both
-
-  kept : at + length xs + length ys ≤ length out → take at (written (at + length xs) ys out) ≡ take at out
-  kept h =
-      sym (take-take at (at + length xs) _ (omega arith))
-      ∙ ap (take at) (written-before (at + length xs) ys out h)
-      ∙ take-take at (at + length xs) out (omega arith)
-
-  -- and so they are with the second written first
-  pub written-ahead : written at xs (written (at + length xs) ys out) ≡ written at (xs ++ ys) out
-  written-ahead =
-      let w : List ℕ = written (at + length xs) ys out in
-      let first : at + length xs + length ys ≤ length out = omega (arith, both) in
-      let then : at + length xs ≤ length w = omega (arith, both, length-written (at + length xs) ys out) in
-      written-with-room at xs w then
-      ∙ ap₂ (λ (p q : List ℕ). p ++ (xs ++ q)) (kept first) (written_from (at + length xs) ys out first)
-      ∙ written_both
-
--- a text is written byte by byte: its first i bytes, with a store after them, are its first i + 1
-pub written-more : (at i : ℕ) (text out : List ℕ) → i < length text → at + length text ≤ length out
-    → set (written at (take i text) out) (at + i) (get_or text i 0) ≡ written at (take (i + 1) text) out
-written-more at i text out h room =
-    let long : length (take i text) ≡ i = length-take-le i text (omega arith) in
-    let next : take (i + 1) text ≡ take i text ++ (get_or text i 0 ∷ []) = rw (add-one i) (take-suc text i 0 h) in
-    let far : at + length (take i text ++ (get_or text i 0 ∷ [])) ≤ length out = simp (length-append, long) (omega arith) in
-    written_one (at + i) (get_or text i 0) (written at (take i text) out) (omega (arith, length-written at (take i text) out))
-    ∙ ap (λ (k : ℕ). written (at + k) (get_or text i 0 ∷ []) (written at (take i text) out)) (sym long)
-    ∙ written_then at (take i text) (get_or text i 0 ∷ []) out far
-    ∙ ap (λ (r : List ℕ). written at r out) (sym next)

@@ -1,7 +1,7 @@
 -- Texts written one after another over a buffer that has room for them all: they are one text, and where it ends is known. From the laws of
 -- writing one text.
 -- Assumes nothing.
-use mathlib.Core.Path.{◌≡◌, ap, ap₂, ◌∙◌}
+use mathlib.Core.Path.{◌≡◌, ap, ap₂, subst, ◌∙◌}
 use mathlib.Core.List.{List, ◌++◌}
 use Prim.Native.Nat.{ℕ, ◌+◌, ◌≤◌}
 use native.Mathlib.Omega.{arith}
@@ -19,6 +19,10 @@ module _ {at : ℕ} {text out : List ℕ} {stop : ℕ} {after : List ℕ} where
 
   pub puts-all : (stop ≡ at + length text) × (after ≡ written at text out) → Puts at text out stop after
   puts-all w = record { wrote = λ _. w }
+
+  -- the same text by another name
+  pub puts-as : {other : List ℕ} → text ≡ other → Puts at text out stop after → Puts at other out stop after
+  puts-as e p = subst (λ (t : List ℕ). Puts at t out stop after) e p
 
   -- there is room after it for what there was room for besides,
   pub room-left : (k : ℕ) → Puts at text out stop after → at + (length text + k) ≤ length out → stop + k ≤ length after

@@ -1,13 +1,9 @@
 -- Lines, fields and numbers of a text, read and written: R15.3, R15.4 and R15.9 of docs/RULES.md. A text is the list of its bytes, in ASCII.
 -- Assumes nothing.
-use Rattle.std.specs.Prelude.{Bool, true, false, not, cond, ◌&&◌, ◌||◌, List, [], ◌∷◌, ◌++◌, ℕ, zero, suc, ◌+◌, ◌-◌, ◌*◌, ◌/◌, ◌%◌, leb, ltb, eqb, length, take, drop}
+use Rattle.std.specs.Prelude.{Bool, true, false, not, cond, ◌&&◌, ◌||◌, List, [], ◌∷◌, ◌++◌, ℕ, zero, suc, ◌+◌, ◌-◌, ◌*◌, ◌/◌, ◌%◌, leb, ltb, eqb, length, take, drop, Option, Some, None}
 use Prim.Native.Char.{code}
 use Prim.Native.String as string
 use Prim.Native.String.{String}
-use Rattle.text.specs.declared.Number.{Number}
-use Rattle.text.specs.declared.Number.TheVariants.{Plain, NotPlain}
-use Rattle.text.specs.declared.Word.{Word}
-use Rattle.text.specs.declared.Word.TheVariants.{Hex, NotHex}
 
 -- the bytes of a text that is written out here
 unfoldable pub ascii : String → List ℕ
@@ -90,19 +86,19 @@ unfoldable pub plain_up_to : (limit : ℕ) (text : List ℕ) → Bool
 plain_up_to limit xs = plain_number xs && leb (value 10 0 xs) limit
 
 -- the field that starts at an index of a text, read as a plain number of at most a limit: its value, and the index at which the next field starts
-unfoldable pub number_at : (limit : ℕ) (text : List ℕ) (at : ℕ) → Number
+unfoldable pub number_at : (limit : ℕ) (text : List ℕ) (at : ℕ) → Option (ℕ × ℕ)
 number_at limit text at =
     cond (plain_up_to limit (first_field (drop at text)))
-    (Plain (value 10 0 (first_field (drop at text))) (at + length (first_field (drop at text)) + 1))
-    NotPlain
+    (Some (value 10 0 (first_field (drop at text)), at + length (first_field (drop at text)) + 1))
+    None
 
 -- R15.9: so many hexadecimal digits, and no more
 unfoldable pub hex : ℕ → List ℕ → Bool
 hex k xs = eqb (length xs) k && only hex_digit xs
 
 -- the 64-bit word that 16 of them write
-unfoldable pub word_in : List ℕ → Word
-word_in xs = cond (hex 16 xs) (Hex (value 16 0 xs)) NotHex
+unfoldable pub word_in : List ℕ → Option ℕ
+word_in xs = cond (hex 16 xs) (Some (value 16 0 xs)) None
 
 -- ---- writing
 

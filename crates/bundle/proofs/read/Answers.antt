@@ -9,7 +9,7 @@ use lib.Dec.{eqb}
 use lib.ListN.{length, get_or}
 use Rattle.octets.specs.Octets.{Bytes}
 use Rattle.refusal.specs.Outcome.{unless}
-use Rattle.refusal.specs.Refusal.{verdict_of}
+use Rattle.refusal.proofs.Passed.{passed-on}
 use Rattle.refusal.proofs.Reasons.{done-again, refused-again}
 use Rattle.config.specs.declared.Config.{Config}
 use Rattle.config.specs.Config.{good}
@@ -95,8 +95,10 @@ unfolding read read_reasons unless
 returns-then-first-config c =
     simp (good-known (goal.at.returns-then-first-config c).Else-not-good, length-known (sized (slot (goal.at.returns-then-first-config c).Else-first-ne0)), reserved-known (goal.at.returns-then-first-config c).Else-first-ne0, ne_eqb _ _ (λ q. c.if-first-config.true (day-known (slot (goal.at.returns-then-first-config c).Else-first-ne0) ∙ q)))
 
-pub returns-in-Done : goal.returns-in-Done
-returns-in-Done c = sym (header-decides (goal.at.returns-in-Done c).After-check ∙ done-again _ _ _ _ (sym c.check.ensures ∙ ap verdict_of c.in-Done.is))
+pub returns : goal.returns
+returns c = sym (header-decides (goal.at.returns c).After-check ∙ done-again _ _ _ _ (sym c.in_ok-check.ensures))
 
-pub returns-in-Refused : goal.returns-in-Refused
-returns-in-Refused c = sym (header-decides (goal.at.returns-in-Refused c).After-check ∙ refused-again _ _ _ _ (sym c.check.ensures ∙ ap verdict_of c.in-Refused.is))
+pub returns-in_err-check : goal.returns-in_err-check
+returns-in_err-check c =
+    passed-on _ _ _ c.from_residual.ensures.1
+    ∙ sym (header-decides (goal.at.returns-in_err-check c).After-check ∙ refused-again _ _ _ _ (sym c.in_err-check.ensures))

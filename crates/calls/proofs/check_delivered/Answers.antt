@@ -1,58 +1,32 @@
 -- `check_delivered` meets its contract: each return follows from the tests passed before it. Assumes nothing.
-use mathlib.Core.Path.{◌≡◌, sym, ap, ◌∙◌}
-use mathlib.Core.Bool.{true}
+use mathlib.Core.Path.{◌≡◌, sym, ap, ap₂, ◌∙◌}
+use mathlib.Core.Bool.{true, false}
 use mathlib.Core.List.{List}
-use Prim.Native.Nat.{ℕ, ◌<◌}
-use lib.ListN.{length}
+use Prim.Native.Nat.{ℕ, ◌+◌, ◌<◌}
+use Rattle.refusal.specs.Outcome.{refused, done}
+use Rattle.refusal.specs.Refusal.{number_of}
+use Rattle.refusal.proofs.Passed.{passed-on}
+use Rattle.refusal.proofs.Reasons.{plain-told}
 use Rattle.config.specs.declared.Config.{Config}
 use Rattle.config.specs.declared.Slot.{Slot}
-use Rattle.config.specs.Config.{good, slots, slot_of_day, in_range, slot_place, place, records_size}
-use Rattle.config.proofs.Laws.{in-range, place-slot}
+use Rattle.config.specs.Config.{good, slots, slot_of_day, place}
+use Rattle.record.specs.Record.{bytes, decoded, well_formed, payload_at}
 use Rattle.protocol.specs.Update.{is_delivered}
-use Rattle.record.specs.Record.{bytes, decoded, well_formed}
 use Rattle.calls.specs.Records.{record_at}
-use Rattle.calls.proofs.RecordBounds.{record-at}
-use Rattle.calls.proofs.Records.{place-fits}
+use Rattle.calls.specs.Showing.{delivered}
+use Rattle.calls.proofs.Days.{Made, day-made, day-length}
 use Rattle.calls.proofs.Refusals.{delivered-bad, delivered-sender, delivered-seq, delivered-size, delivered-malformed, delivered-not, delivered-done}
 use Rattle.calls.proofs.check_delivered.Goals as goal
-use Rattle.calls.proofs.check_delivered.Goals.{After-get-record, After-is_delivered, After-place, After-well_formed-2, Else-config-sender, Else-not-good, Else-records-records_size, Start}
-
--- ---- the places on the way, each from a later one, and what is known there
-abbrev entry : Else-not-good → Start
-entry c = (goal.at.Else-not-good c).Start
-
-abbrev configured : Else-config-sender → Else-not-good
-configured c = (goal.at.Else-config-sender c).Else-not-good
-
-abbrev sized : After-place → Else-records-records_size
-sized c = (goal.at.After-place c).Else-records-records_size
-
-abbrev loaded : After-well_formed-2 → After-place
-loaded c = (goal.at.After-well_formed-2 c).After-place
-
-abbrev formed : After-is_delivered → After-well_formed-2
-formed c = (goal.at.After-is_delivered c).After-well_formed-2
+use Rattle.calls.proofs.check_delivered.Goals.{After-from_residual, After-record-record, Else-not-good, Else-seq-ge-SLOTS}
 
 good-known : (c : Else-not-good) → good c.args.config ≡ true
 good-known c = sym c.good.ensures ∙ c.if-not-good.false
 
-module _ (c : Else-records-records_size) where
-  abbrev given : Start
-  given = entry (configured (goal.at.Else-records-records_size c).Else-config-sender)
-
-  abbrev config : Config
-  config = given.args.config
-
+module _ (c : Else-seq-ge-SLOTS) where
   abbrev slot : Slot
-  slot = slot_of_day config given.args.sender given.args.seq
+  slot = slot_of_day c.args.config c.args.sender c.args.seq
 
-  abbrev records : List ℕ
-  records = given.args.records.now
-
-  good-there : good config ≡ true
-  good-there = good-known (configured (goal.at.Else-records-records_size c).Else-config-sender)
-
-  sender-known : slot.sender < config.n
+  sender-known : slot.sender < c.args.config.n
   unfolding slot_of_day
   sender-known = c.if-config-sender.false
 
@@ -60,71 +34,76 @@ module _ (c : Else-records-records_size) where
   unfolding slot_of_day
   seq-known = c.if-seq-ge-SLOTS.false
 
-  long-known : length records ≡ records_size config
-  long-known = c.if-records-records_size.false ∙ c.records_size.ensures
+-- no day is made of records of another length
+stopped : (c : After-from_residual)
+    → delivered c.args.config (slot_of_day c.args.config c.args.sender c.args.seq) c.args.records.now ≡ refused (number_of c.in_err-day.field-0.0)
+stopped c =
+    let (number, wrong) = day-length c.args.config c.args.records.now (sym c.good.ensures ∙ c.if-not-good.false) _ c.in_err-day.ensures in
+    let at = (goal.at.After-from_residual c).Else-seq-ge-SLOTS in
+    delivered-size c.args.config (slot at) c.args.records.now (sym c.good.ensures ∙ c.if-not-good.false) (sender-known at) (seq-known at) wrong ∙ ap refused (sym number)
 
-  range-known : in_range config slot ≡ true
-  range-known = in-range config slot sender-known seq-known
+-- the day has what was given, and the record that was loaded is the slot's
+module _ (c : After-record-record) where
+  made : Made c.args.config c.args.records.now (c.in_ok-day.day.config, c.in_ok-day.day.records.now)
+  made = day-made _ _ _ c.in_ok-day.ensures
 
-place-known : (c : After-place) → c.place.result ≡ place (config (sized c)) (slot (sized c))
-place-known c =
-    c.place.ensures
-    ∙ ap slot_place c.slot_of_day.ensures
-    ∙ sym (place-slot (config (sized c)) (slot (sized c)) (good-there (sized c)) (range-known (sized c)))
+  record-known : bytes c.record-record.result ≡ record_at c.args.config (slot_of_day c.args.config c.args.sender c.args.seq) c.args.records.now
+  record-known =
+      c.record-record.ensures
+      ∙ ap₂ (λ (g : Config) (xs : List ℕ). record_at g (slot_of_day g c.args.sender c.args.seq) xs) made.config_is made.records_is
 
--- the record that was loaded is the slot's
-record-known : (c : After-get-record) → bytes c.get-record.result ≡ record_at (config (sized (goal.at.After-get-record c).After-place)) (slot (sized (goal.at.After-get-record c).After-place)) (records (sized (goal.at.After-get-record c).After-place))
-record-known c = c.get-record.ensures ∙ record-at _ _ _ _ (place-known (goal.at.After-get-record c).After-place)
+  -- what the tests before it have passed
+  abbrev fine : Else-seq-ge-SLOTS
+  fine = (goal.at.After-record-record c).Else-seq-ge-SLOTS
 
--- what `well_formed` and `is_delivered` answer of it
-well-formed-known : (c : After-well_formed-2) → c.well_formed-2.result
-    ≡ well_formed (config (sized (loaded c))) (slot (sized (loaded c))).sender (record_at (config (sized (loaded c))) (slot (sized (loaded c))) (records (sized (loaded c))))
-unfolding slot_of_day
-well-formed-known c = c.well_formed-2.ensures ∙ ap (well_formed (config (sized (loaded c))) (slot (sized (loaded c))).sender) (record-known (goal.at.After-well_formed-2 c).After-get-record)
+  -- the three answers that the record gives
+  malformed : well_formed c.args.config c.args.sender (bytes c.record-record.result) ≡ false → delivered c.args.config (slot fine) c.args.records.now ≡ refused 21
+  unfolding slot_of_day
+  malformed e =
+      delivered-malformed _ _ _ made.config_good (sender-known fine) (seq-known fine) made.records_whole
+      (ap (well_formed c.args.config c.args.sender) (sym record-known) ∙ e)
 
-delivered-known : (c : After-is_delivered) → c.is_delivered.result
-    ≡ is_delivered (decoded (record_at (config (sized (loaded (formed c)))) (slot (sized (loaded (formed c)))) (records (sized (loaded (formed c))))))
-delivered-known c = c.is_delivered.ensures ∙ ap (λ xs. is_delivered (decoded xs)) (record-known (goal.at.After-is_delivered c).After-get-record)
+  module _ (formed : well_formed c.args.config c.args.sender (bytes c.record-record.result) ≡ true) where
+    undelivered : is_delivered (decoded (bytes c.record-record.result)) ≡ false → delivered c.args.config (slot fine) c.args.records.now ≡ refused 26
+    unfolding slot_of_day
+    undelivered e =
+        delivered-not _ _ _ made.config_good (sender-known fine) (seq-known fine) made.records_whole
+        (ap (well_formed c.args.config c.args.sender) (sym record-known) ∙ formed) (ap (λ (xs : List ℕ). is_delivered (decoded xs)) (sym record-known) ∙ e)
+
+    shown : is_delivered (decoded (bytes c.record-record.result)) ≡ true
+        → delivered c.args.config (slot fine) c.args.records.now ≡ done (place c.args.config (slot fine) + payload_at)
+    unfolding slot_of_day
+    shown e =
+        delivered-done _ _ _ made.config_good (sender-known fine) (seq-known fine) made.records_whole
+        (ap (well_formed c.args.config c.args.sender) (sym record-known) ∙ formed) (ap (λ (xs : List ℕ). is_delivered (decoded xs)) (sym record-known) ∙ e)
 
 pub returns-then-not-good : goal.returns-then-not-good
 returns-then-not-good c = rw (delivered-bad _ _ _ (sym c.good.ensures ∙ c.if-not-good.true))
 
 pub returns-then-config-sender : goal.returns-then-config-sender
 unfolding slot_of_day
-returns-then-config-sender c = rw (delivered-sender _ (slot_of_day _ _ _) _ (good-known (goal.at.returns-then-config-sender c).Else-not-good) c.if-config-sender.true)
+returns-then-config-sender c =
+    rw (delivered-sender _ (slot_of_day _ _ _) _ (good-known (goal.at.returns-then-config-sender c).Else-not-good) c.if-config-sender.true)
 
 pub returns-then-seq-ge-SLOTS : goal.returns-then-seq-ge-SLOTS
 unfolding slot_of_day
-returns-then-seq-ge-SLOTS c = rw (delivered-seq _ (slot_of_day _ _ _) _ (good-known (configured (goal.at.returns-then-seq-ge-SLOTS c).Else-config-sender)) c.if-config-sender.false c.if-seq-ge-SLOTS.true)
+returns-then-seq-ge-SLOTS c =
+    rw (delivered-seq _ (slot_of_day _ _ _) _ (good-known (goal.at.returns-then-seq-ge-SLOTS c).Else-not-good) c.if-config-sender.false c.if-seq-ge-SLOTS.true)
 
-pub returns-then-records-records_size : goal.returns-then-records-records_size
-unfolding slot_of_day
-returns-then-records-records_size c =
-    let ok = c in
-    rw (delivered-size _ (slot_of_day _ _ _) _ (good-known (configured (goal.at.returns-then-records-records_size c).Else-config-sender)) ok.if-config-sender.false ok.if-seq-ge-SLOTS.false (λ q. c.if-records-records_size.true (q ∙ sym c.records_size.ensures)))
+pub returns-in_err-day : goal.returns-in_err-day
+returns-in_err-day c = passed-on _ _ _ c.from_residual.ensures.1 ∙ plain-told _ _ (stopped c)
 
-pub get-record-requires : goal.get-record-requires
-get-record-requires c =
-    let ok = c in
-    rw (place-known c) (place-fits (config (goal.at.get-record-requires c).Else-records-records_size) (good-there (goal.at.get-record-requires c).Else-records-records_size) (records (goal.at.get-record-requires c).Else-records-records_size) (long-known (goal.at.get-record-requires c).Else-records-records_size) (slot (goal.at.get-record-requires c).Else-records-records_size) (range-known (goal.at.get-record-requires c).Else-records-records_size))
+pub record-record-requires : goal.record-record-requires
+record-record-requires c =
+    let day = day-made _ _ _ c.in_ok-day.ensures in
+    record { sender_lt_n = rw day.config_is c.if-config-sender.false; seq_lt_slots = c.if-seq-ge-SLOTS.false }
 
 pub returns-then-not-well_formed : goal.returns-then-not-well_formed
-returns-then-not-well_formed c =
-    let formed-at = c in
-    let ok = c in
-    rw (delivered-malformed _ _ _ (good-there (goal.at.returns-then-not-well_formed c).Else-records-records_size) (sender-known (goal.at.returns-then-not-well_formed c).Else-records-records_size) (seq-known (goal.at.returns-then-not-well_formed c).Else-records-records_size) (long-known (goal.at.returns-then-not-well_formed c).Else-records-records_size)
-    (sym (well-formed-known (goal.at.returns-then-not-well_formed c).After-well_formed-2) ∙ c.if-not-well_formed.true))
+returns-then-not-well_formed c = rw (malformed (goal.at.returns-then-not-well_formed c).After-record-record (sym c.if-not-well_formed.ensures))
 
 pub returns-then-not-is_delivered : goal.returns-then-not-is_delivered
 returns-then-not-is_delivered c =
-    let formed-at = c in
-    let ok = c in
-    rw (delivered-not _ _ _ (good-there (goal.at.returns-then-not-is_delivered c).Else-records-records_size) (sender-known (goal.at.returns-then-not-is_delivered c).Else-records-records_size) (seq-known (goal.at.returns-then-not-is_delivered c).Else-records-records_size) (long-known (goal.at.returns-then-not-is_delivered c).Else-records-records_size)
-    (sym (well-formed-known (goal.at.returns-then-not-is_delivered c).After-well_formed-2) ∙ c.if-not-well_formed.false) (sym (delivered-known (goal.at.returns-then-not-is_delivered c).After-is_delivered) ∙ c.if-not-is_delivered.true))
+    rw (undelivered (goal.at.returns-then-not-is_delivered c).After-record-record (sym c.if-not-well_formed.ensures) (sym c.if-not-is_delivered.ensures))
 
 pub returns : goal.returns
-returns c =
-    let formed-at = c in
-    let ok = c in
-    rw (delivered-done _ _ _ (good-there (goal.at.returns c).Else-records-records_size) (sender-known (goal.at.returns c).Else-records-records_size) (seq-known (goal.at.returns c).Else-records-records_size) (long-known (goal.at.returns c).Else-records-records_size)
-    (sym (well-formed-known (goal.at.returns c).After-well_formed-2) ∙ c.if-not-well_formed.false) (sym (delivered-known (goal.at.returns c).After-is_delivered) ∙ c.if-not-is_delivered.false))
+returns c = rw (shown (goal.at.returns c).After-record-record (sym c.if-not-well_formed.ensures) (sym c.if-not-is_delivered.ensures))

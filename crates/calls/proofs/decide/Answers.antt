@@ -3,8 +3,10 @@ use mathlib.Core.Path.{◌≡◌, sym, ap, ap₂, ◌∙◌, subst}
 use mathlib.Core.List.{List}
 use Prim.Native.Nat.{ℕ, ◌+◌, ◌≤◌}
 use lib.ListN.{length}
+use Rattle.std.proofs.lemmas.Result.{IfOk-from_err}
 use Rattle.payload.specs.Payload as payload
-use Rattle.refusal.specs.Outcome.{refused, done}
+use Rattle.refusal.specs.Outcome.{done}
+use Rattle.refusal.proofs.Passed.{passed-on}
 use Rattle.config.specs.declared.Config.{Config}
 use Rattle.config.specs.declared.Slot.{Slot}
 use Rattle.config.specs.Config.{slot_of_day, slot_place, place, record_size, records_size}
@@ -13,20 +15,19 @@ use Rattle.bundle.specs.declared.Header.{Header}
 use Rattle.bundle.specs.Bundle.{read, reading_of, payload_part, slot_of}
 use Rattle.bundle.proofs.Accepted.{accepted-readable}
 use Rattle.bundle.proofs.Fields.{loaded-payload}
-use Rattle.record.specs.Record.{bytes, received, encoded_update, received_of}
+use Rattle.record.specs.Record.{bytes, received, encoded_update}
 use Rattle.calls.specs.Records.{record_at}
 use Rattle.calls.specs.Receive.{receive}
-use Rattle.calls.specs.Inner.{number_in}
 use Rattle.calls.proofs.RecordBounds.{record-at}
 use Rattle.calls.proofs.Records.{place-fits}
 use Rattle.calls.proofs.ReceiveFacts.{Read, read-says}
 use Rattle.calls.proofs.Refusals.{receive-unread, receive-out, receive-size, receive-recorded}
 use Rattle.calls.proofs.Settling.{refused-decided}
 use Rattle.calls.proofs.decide.Goals as goal
-use Rattle.calls.proofs.decide.Goals.{After-get-record, After-place-start, After-receive-received, Else-records-records_size, In-Accepted}
+use Rattle.calls.proofs.decide.Goals.{After-get-record, After-place-start, After-receive, Else-records-records_size, In-Ok}
 
-abbrev accepting : Else-records-records_size → In-Accepted
-accepting c = (goal.at.Else-records-records_size c).In-Accepted
+abbrev accepting : Else-records-records_size → In-Ok
+accepting c = (goal.at.Else-records-records_size c).In-Ok
 
 abbrev sized : After-place-start → Else-records-records_size
 sized c = (goal.at.After-place-start c).Else-records-records_size
@@ -34,15 +35,15 @@ sized c = (goal.at.After-place-start c).Else-records-records_size
 abbrev placed : After-get-record → After-place-start
 placed c = (goal.at.After-get-record c).After-place-start
 
-abbrev loaded : After-receive-received → After-get-record
-loaded c = (goal.at.After-receive-received c).After-get-record
+abbrev loaded : After-receive → After-get-record
+loaded c = (goal.at.After-receive c).After-get-record
 
-abbrev header : In-Accepted → Header
-header c = c.in-Accepted.header
+abbrev header : In-Ok → Header
+header c = c.in-Ok.header
 
 -- reading has accepted the bundle
-accepted : (c : In-Accepted) → read c.args.config c.args.bundle.now ≡ done (header c)
-accepted c = sym c.read-reading.ensures ∙ ap reading_of c.in-Accepted.is
+accepted : (c : In-Ok) → read c.args.config c.args.bundle.now ≡ done (header c)
+accepted c = sym c.in-Ok.ensures
 
 -- ---- what is known after the lengths
 module _ (c : Else-records-records_size) where
@@ -87,7 +88,7 @@ place-known-fits c =
     let ok = c in
     subst (λ (k : ℕ). k + record_size ≤ length (records (goal.at.After-place-start c).Else-records-records_size)) (sym (place-known c)) (place-fits _ (is_read (goal.at.After-place-start c).Else-records-records_size).configured (records (goal.at.After-place-start c).Else-records-records_size) (long-known (goal.at.After-place-start c).Else-records-records_size) _ (is_read (goal.at.After-place-start c).Else-records-records_size).range)
 
-module _ (c : After-receive-received) where
+module _ (c : After-receive) where
   abbrev known : Else-records-records_size
   known = sized (placed (loaded c))
 
@@ -102,23 +103,29 @@ module _ (c : After-receive-received) where
       ∙ loaded-payload (bundle known) (accepted-readable _ _ _ (accepted (accepting known))).0.long
       ∙ sym (is_read known).payload
 
-  stepped : received_of c.receive-received.result ≡ encoded_update (receive (config known) (bundle known) (records known) (out known))
+  -- what the record makes of the bundle is what receiving does
+  stepped : encoded_update (received (config known) (fields known).sender (fields known).signers (payload.bytes c.load_payload-payload.result) (bytes c.get-record.result))
+      ≡ encoded_update (receive (config known) (bundle known) (records known) (out known))
   stepped =
-      c.receive-received.ensures
-      ∙ ap₂ (λ p xs. encoded_update (received (config known) (fields known).sender (fields known).signers p xs)) payload-known record-known
+      ap₂ (λ p xs. encoded_update (received (config known) (fields known).sender (fields known).signers p xs)) payload-known record-known
       ∙ ap encoded_update (sym (recorded known))
 
+-- what reading refuses, or the record does, is refused
 pub returns-in_default : goal.returns-in_default
-returns-in_default c =
-    let told = ap reading_of c.in_default.is in
-    record {
-      result_value = refused-decided _ _ _ _ _ (receive-unread _ _ _ _ _ (sym c.read-reading.ensures ∙ told ∙ ap refused (sym (c.reason.ensures ∙ ap number_in told))));
-      placed = tt;
-    }
+returns-in_default c = record {
+  result_value = refused-decided _ _ _ _ _ (receive-unread _ _ _ _ _ (sym c.read-reading.ensures ∙ ap reading_of c.unwrap_err.ensures));
+  placed = tt;
+}
+
+pub returns-in_err-received : goal.returns-in_err-received
+returns-in_err-received c = record {
+  result_value = passed-on _ _ _ c.from_residual.ensures.1 ∙ c.in_err-received.ensures ∙ stepped (goal.at.returns-in_err-received c).After-receive;
+  placed = IfOk-from_err _ _ c.from_residual.ensures.0;
+}
 
 pub returns-then-outgoing-ne-SIZE : goal.returns-then-outgoing-ne-SIZE
 returns-then-outgoing-ne-SIZE c = record {
-  result_value = refused-decided _ _ _ _ _ (receive-out _ _ _ _ _ (accepted (goal.at.returns-then-outgoing-ne-SIZE c).In-Accepted) c.if-outgoing-ne-SIZE.true);
+  result_value = refused-decided _ _ _ _ _ (receive-out _ _ _ _ _ (accepted (goal.at.returns-then-outgoing-ne-SIZE c).In-Ok) c.if-outgoing-ne-SIZE.true);
   placed = tt;
 }
 
@@ -126,7 +133,7 @@ pub returns-then-records-records_size : goal.returns-then-records-records_size
 returns-then-records-records_size c =
     let roomy = c in
     record {
-      result_value = refused-decided _ _ _ _ _ (receive-size _ _ _ _ _ (accepted (goal.at.returns-then-records-records_size c).In-Accepted) roomy.if-outgoing-ne-SIZE.false (λ q. c.if-records-records_size.true (q ∙ sym c.records_size.ensures)));
+      result_value = refused-decided _ _ _ _ _ (receive-size _ _ _ _ _ (accepted (goal.at.returns-then-records-records_size c).In-Ok) roomy.if-outgoing-ne-SIZE.false (λ q. c.if-records-records_size.true (q ∙ sym c.records_size.ensures)));
       placed = tt;
     }
 
@@ -135,8 +142,7 @@ get-record-requires c = place-known-fits c
 
 pub returns : goal.returns
 returns c =
-    let at = c in
     record {
-      result_value = stepped c;
+      result_value = c.in_ok-received.ensures ∙ stepped (goal.at.returns c).After-receive;
       placed = (place-known (goal.at.returns c).After-place-start ∙ ap (place (config (sized (goal.at.returns c).After-place-start))) (sym (is_read (sized (goal.at.returns c).After-place-start)).slot-named), place-known-fits (goal.at.returns c).After-place-start);
     }

@@ -1,58 +1,33 @@
 -- `preview` meets its contract: what was decided is answered, and not stored. Assumes nothing.
-use mathlib.Core.Path.{◌≡◌, sym, ap, ◌∙◌}
+use mathlib.Core.Path.{◌≡◌, ap, ◌∙◌}
 use mathlib.Core.List.{List}
 use Prim.Native.Nat.{ℕ}
-use Rattle.octets.specs.Octets.{Bytes}
-use Rattle.refusal.specs.Outcome.{Outcome}
-use Rattle.config.specs.declared.Config.{Config}
+use Rattle.refusal.specs.Outcome.{Outcome, refused}
+use Rattle.refusal.specs.Refusal.{number_of}
+use Rattle.refusal.proofs.Passed.{passed-on}
 use Rattle.protocol.specs.Update.{Answer}
-use Rattle.record.specs.Record.{received_of, encoded_update}
 use Rattle.calls.specs.Receive.{receive}
-use Rattle.calls.specs.Inner.{decision_of, settled_receipt, settled_out}
+use Rattle.calls.specs.Inner.{settled_receipt, settled_out}
 use Rattle.calls.proofs.Refusals.{receive-no-effect}
 use Rattle.calls.proofs.Settling.{settled-receipt, settled-out, decided-refused}
 use Rattle.calls.proofs.preview.Goals as goal
-use Rattle.calls.proofs.preview.Goals.{In-Made, Start}
+use Rattle.calls.proofs.preview.Goals.{After-from_residual}
 
--- ---- what is known where a decision was made
-module _ (c : In-Made) where
-  abbrev entry : Start
-  entry = (goal.at.In-Made c).Start
-
-  abbrev config : Config
-  config = entry.args.config
-
-  abbrev bundle : List ℕ
-  bundle = entry.args.bundle.now
-
-  abbrev records : List ℕ
-  records = entry.args.records.now
-
-  abbrev out : List ℕ
-  out = entry.args.out.now
-
-  bytes-known : Bytes bundle
-  bytes-known i = (c.shared_slice_known-1.given i).fits
-
-  made : received_of c.in-Made.received ≡ encoded_update (receive config bundle records out)
-  made = ap decision_of (sym c.in-Made.is) ∙ c.decide.ensures.result_value
-
-pub returns-in-Made : goal.returns-in-Made
-returns-in-Made c =
-    let answered = c in
-    let told = answered in
+pub returns : goal.returns
+returns c =
+    let made = c.in_ok-received.ensures.result_value in
     record {
-      value = answered.answer.ensures.result_value ∙ ap settled_receipt (made (goal.at.returns-in-Made c).In-Made) ∙ settled-receipt _ _ _ _;
-      out_after = answered.answer.ensures.out_after
-          ∙ ap (λ (o : Outcome (Answer × List ℕ)). settled_out (bundle (goal.at.returns-in-Made c).In-Made) o (out (goal.at.returns-in-Made c).In-Made)) (made (goal.at.returns-in-Made c).In-Made)
-          ∙ settled-out _ _ _ _ (bytes-known (goal.at.returns-in-Made c).In-Made);
+      value = c.answer.ensures.result_value ∙ ap settled_receipt made ∙ settled-receipt _ _ _ _;
+      out_after = c.answer.ensures.out_after
+          ∙ ap (λ (o : Outcome (Answer × List ℕ)). settled_out c.args.bundle.now o c.args.out.now) made
+          ∙ settled-out _ _ _ _ (λ i. (c.type_inv.bundle i).fits);
     }
 
-pub returns-in-Refused : goal.returns-in-Refused
-returns-in-Refused c =
-    let told = c in
-    let nothing = receive-no-effect _ _ _ _ _ (decided-refused _ _ _ _ _ (ap decision_of (sym c.in-Refused.is) ∙ told.decide.ensures.result_value)) in
-    record {
-      value = nothing.0;
-      out_after = nothing.1.1;
-    }
+-- what is refused where it is decided is refused
+stopped : (c : After-from_residual) → receive c.args.config c.args.bundle.now c.args.records.now c.args.out.now ≡ refused (number_of c.in_err-received.field-0.0)
+stopped c = decided-refused _ _ _ _ _ c.in_err-received.ensures.result_value
+
+pub returns-in_err-received : goal.returns-in_err-received
+returns-in_err-received c =
+    let (told, (kept, same)) = receive-no-effect _ _ _ _ _ (stopped c) in
+    record { value = passed-on _ _ _ c.from_residual.ensures.1 ∙ told; out_after = same }

@@ -5,133 +5,106 @@ use mathlib.Core.List.{List}
 use Prim.Native.Nat.{ℕ}
 use native.Mathlib.Nat.{le_of_eq}
 use native.Mathlib.Omega.{arith}
-use lib.ListN.{length}
-use borrow.Author.Tests.{not-true, not-false}
+use Rattle.std.proofs.lemmas.Result.{err_from_is_err_and}
 use Rattle.signers.proofs.Members.{word_same}
 use Rattle.refusal.specs.Outcome.{done}
 use Rattle.config.specs.declared.Config.{Config}
-use Rattle.config.specs.Config.{good, with_own, records_size}
+use Rattle.config.specs.Config.{with_own}
+use Rattle.calls.specs.Day.{day_of, parts}
 use Rattle.calls.specs.WellFormed.{all_well_formed}
+use Rattle.calls.proofs.Days as days
 use Rattle.equivocators.specs.Equivocators.{equivocates}
-use Rattle.equivocators.proofs.Refusals.{both-formed, refused-config, refused-other, refused-size, refused-formed, refused-other-size, refused-either, refused-same, names}
+use Rattle.equivocators.specs.Inner.{all_formed}
+use Rattle.equivocators.proofs.Refusals.{Made, first-made, first-formed, both-formed, told-of, same-system, refused-early, refused-formed, refused-other-size, refused-either, refused-same, names}
 use Rattle.equivocators.proofs.equivocators.Goals as goal
-use Rattle.equivocators.proofs.equivocators.Goals.{After-good-2, Else-first-size, Else-not-comparison, Else-second-size}
+use Rattle.equivocators.proofs.equivocators.Goals.{In-Ok}
 
--- ---- what is known on the way
-module _ (c : After-good-2) where
-  abbrev config : Config
-  config = c.args.config
-
-  abbrev other : ℕ
-  other = c.args.other
-
-  abbrev first : List ℕ
-  first = c.args.first.now
-
-  abbrev second : List ℕ
-  second = c.args.second.now
-
-  good-known : good config ≡ true
-  good-known = sym c.good.ensures ∙ c.if-not-good.false
-
-  other-is : c.good-2.result ≡ good (with_own config other)
-  other-is = c.good-2.ensures ∙ ap good c.with_own.ensures
-
-module _ (c : Else-first-size) where
-  abbrev here : After-good-2
-  here = (goal.at.Else-first-size c).After-good-2
-
-  other-known : good (with_own (config here) (other here)) ≡ true
-  other-known = sym (other-is here) ∙ c.if-not-good-2.false
-
-  size-known : length (first here) ≡ records_size (config here)
-  size-known = c.if-first-size.false ∙ c.records_size-size.ensures
-
-module _ (c : Else-second-size) where
-  abbrev sized : Else-first-size
-  sized = (goal.at.Else-second-size c).Else-first-size
-
-  second-size : length (second (here sized)) ≡ records_size (config (here sized))
-  second-size = c.if-second-size.false ∙ c.records_size-size.ensures
-
-  second-size-there : length (second (here sized)) ≡ records_size (with_own (config (here sized)) (other (here sized)))
-  unfolding records_size with_own
-  second-size-there = second-size
-
-module _ (c : Else-not-comparison) where
-  abbrev both : Else-second-size
-  both = (goal.at.Else-not-comparison c).Else-second-size
-
-  abbrev at : After-good-2
-  at = here (sized both)
-
-  formed : (all_well_formed (config at) (first at) ≡ true) × (all_well_formed (with_own (config at) (other at)) (second at) ≡ true)
-  formed =
-      (and-eq-true_iff (all_well_formed (config at) (first at)) (all_well_formed (with_own (config at) (other at)) (second at))).0
-      (sym (both-formed (config at) (other at) (first at) (second at)) ∙ (sym c.compare-comparison.ensures.formedness ∙ not-false _ c.if-not-comparison.false))
-
-pub returns-then-not-good : goal.returns-then-not-good
-returns-then-not-good c =
-    sym (refused-config c.args.config c.args.other c.args.first.now c.args.second.now (sym c.good.ensures ∙ c.if-not-good.true))
-
-pub returns-then-not-good-2 : goal.returns-then-not-good-2
-returns-then-not-good-2 c =
-    let p = (goal.at.returns-then-not-good-2 c).After-good-2 in
-    sym (refused-other (config p) (other p) (first p) (second p) (good-known p) (sym (other-is p) ∙ c.if-not-good-2.true))
-
-pub returns-then-first-size : goal.returns-then-first-size
-returns-then-first-size c =
-    let p = (goal.at.returns-then-first-size c).After-good-2 in
-    let h = sym (other-is p) ∙ c.if-not-good-2.false in
-    sym (refused-size (config p) (other p) (first p) (second p) (good-known p) h (λ q. c.if-first-size.true (q ∙ sym c.records_size-size.ensures)))
+pub returns-in_err-here : goal.returns-in_err-here
+returns-in_err-here c =
+    let a = c.args in
+    let p = err_from_is_err_and c.from_residual.result c.from_residual.ensures.1 in
+    rw (p.1, p.2) (sym (refused-early a.config a.other a.first.now a.second.now _ c.in_err-here.ensures))
 
 pub returns-then-not-all_well_formed : goal.returns-then-not-all_well_formed
 returns-then-not-all_well_formed c =
-    let s = (goal.at.returns-then-not-all_well_formed c).Else-first-size in
-    let p = here s in
+    let a = c.args in
+    let m = first-made a.config a.other a.first.now _ c.in_ok-here.ensures in
     sym
-    (refused-formed (config p) (other p) (first p) (second p) (good-known p) (other-known s) (size-known s)
-    (sym c.all_well_formed.ensures ∙ c.if-not-all_well_formed.true))
+    (refused-formed a.config a.other a.first.now a.second.now m.here_good m.there_good m.records_whole
+    (first-formed _ _ _ _ m ∙ (sym c.all_well_formed.ensures ∙ c.if-not-all_well_formed.true)))
 
-pub returns-then-second-size : goal.returns-then-second-size
-unfolding records_size with_own
-returns-then-second-size c =
-    let s = (goal.at.returns-then-second-size c).Else-first-size in
-    let p = here s in
+pub returns-in_default : goal.returns-in_default
+returns-in_default c =
+    let a = c.args in
+    let m = first-made a.config a.other a.first.now _ c.in_ok-here.ensures in
+    let told = days.day-length (with_own a.config a.other) a.second.now m.there_good _ (c.in_default.ensures ∙ ap (λ (k : Config). day_of k a.second.now) c.with_own.ensures) in
     sym
-    (refused-other-size (config p) (other p) (first p) (second p) (good-known p) (other-known s) (size-known s)
-    (sym c.all_well_formed.ensures ∙ c.if-not-all_well_formed.false) (λ q. c.if-second-size.true (q ∙ sym c.records_size-size.ensures)))
+    (refused-other-size a.config a.other a.first.now a.second.now m.here_good m.there_good m.records_whole
+    (first-formed _ _ _ _ m ∙ (sym c.all_well_formed.ensures ∙ c.if-not-all_well_formed.false)) told.1)
 
-pub returns-then-not-comparison : goal.returns-then-not-comparison
-returns-then-not-comparison c =
-    let b = (goal.at.returns-then-not-comparison c).Else-second-size in
-    let s = sized b in
-    let p = here s in
-    sym
-    (refused-either (config p) (other p) (first p) (second p) (good-known p) (other-known s) (size-known s) (second-size-there b)
-    (sym c.compare-comparison.ensures.formedness ∙ not-true _ c.if-not-comparison.true))
+-- ---- both days
+
+module _ (c : In-Ok) where
+  abbrev here : Config × List ℕ
+  here = parts c.in_ok-here.here
+
+  abbrev there : Config × List ℕ
+  there = parts c.in-Ok.there
+
+  made-here : Made c.args.config c.args.other c.args.first.now here
+  made-here = first-made c.args.config c.args.other c.args.first.now here c.in_ok-here.ensures
+
+  made-there : days.Made (with_own c.args.config c.args.other) c.args.second.now there
+  made-there =
+      days.day-made (with_own c.args.config c.args.other) c.args.second.now there
+      (c.in-Ok.ensures ∙ ap (λ (k : Config). day_of k c.args.second.now) c.with_own.ensures)
+
+  told : {A : Type 0} (f : Config → ℕ → List ℕ → List ℕ → A)
+      → f here.0 there.0.own here.1 there.1 ≡ f c.args.config c.args.other c.args.first.now c.args.second.now
+  told f = told-of c.args.config c.args.other c.args.first.now c.args.second.now here there made-here made-there f
+
+  -- where all records are well-formed, so are those of each buffer
+  formed : all_formed here.0 there.0.own here.1 there.1 ≡ true
+      → (all_well_formed c.args.config c.args.first.now ≡ true) × (all_well_formed (with_own c.args.config c.args.other) c.args.second.now ≡ true)
+  formed e =
+      (and-eq-true_iff (all_well_formed c.args.config c.args.first.now) (all_well_formed (with_own c.args.config c.args.other) c.args.second.now)).0
+      (sym (both-formed c.args.config c.args.other c.args.first.now c.args.second.now) ∙ sym (told all_formed) ∙ e)
+
+pub invariant_of-compare : goal.invariant_of-compare
+invariant_of-compare c =
+    let a = c.args in
+    record { same_system = same-system a.config a.other a.first.now a.second.now (here c) (there c) (made-here c) (made-there c) }
+
+pub returns-in_err-named : goal.returns-in_err-named
+returns-in_err-named c =
+    let a = c.args in
+    let at = (goal.at.returns-in_err-named c).In-Ok in
+    let m = made-here at in
+    let p = err_from_is_err_and c.from_residual-in_err-named.result c.from_residual-in_err-named.ensures.1 in
+    rw (p.1, p.2, c.in_err-named.ensures.1)
+    (sym
+    (refused-either a.config a.other a.first.now a.second.now m.here_good m.there_good m.records_whole (made-there at).records_whole
+    (sym (told at all_formed) ∙ c.in_err-named.ensures.0)))
 
 pub returns-then-config-other : goal.returns-then-config-other
 returns-then-config-other c =
-    let e = (goal.at.returns-then-config-other c).Else-not-comparison in
-    let b = both e in
-    let s = sized b in
-    let p = here s in
-    let f = formed e in
+    let a = c.args in
+    let at = (goal.at.returns-then-config-other c).In-Ok in
+    let m = made-here at in
+    let f = formed at c.in_ok-named.ensures.0 in
     sym
-    (refused-same (config p) (other p) (first p) (second p) (good-known p) (other-known s) (size-known s) f.0 (second-size-there b) f.1
+    (refused-same a.config a.other a.first.now a.second.now m.here_good m.there_good m.records_whole f.0 (made-there at).records_whole f.1
     c.if-config-other.true)
 
 pub returns : goal.returns
 returns c =
-    let e = (goal.at.returns c).Else-not-comparison in
-    let b = both e in
-    let s = sized b in
-    let p = here s in
-    let f = formed e in
+    let a = c.args in
+    let at = (goal.at.returns c).In-Ok in
+    let m = made-here at in
+    let f = formed at c.in_ok-named.ensures.0 in
     ap done
-    (word_same c.compare-comparison.result.named (equivocates (config p) (other p) (first p) (second p)) 64 (le_of_eq refl) (omega (arith, c.compare-comparison.type_inv))
-    (λ u l. c.compare-comparison.ensures.naming (not-false _ c.if-not-comparison.false) u))
+    (word_same c.in_ok-named.named (equivocates a.config a.other a.first.now a.second.now) 64 (le_of_eq refl) (omega arith)
+    (λ u l. c.in_ok-named.ensures.1 u ∙ told at (λ config other first second. equivocates config other first second u)))
     ∙ sym
-    (names (config p) (other p) (first p) (second p) (good-known p) (other-known s) (size-known s) f.0 (second-size-there b) f.1
+    (names a.config a.other a.first.now a.second.now m.here_good m.there_good m.records_whole f.0 (made-there at).records_whole f.1
     c.if-config-other.false)

@@ -1,58 +1,43 @@
--- `hold` meets its contract: each turn holds one byte more. Assumes nothing.
+-- `hold` meets its contract: what has room is copied behind the bytes that are held. Assumes nothing.
 use mathlib.Core.Path.{◌≡◌, sym, ap, ◌∙◌}
-use mathlib.Core.List.{List, ◌++◌, append-nil}
-use Prim.Native.Nat.{ℕ, ◌+◌, ◌≤◌}
+use mathlib.Core.List.{List, ◌++◌}
+use Prim.Native.Nat.{ℕ, ◌+◌, ◌≤◌, min}
 use native.Mathlib.Omega.{arith}
-use lib.ListN.{length, take, length-append}
-use lib.Seq.{length-take-le, take_all, take-append-add}
+use lib.ListN.{length, take}
+use lib.Seq.{length-take-le, take-append-add, take-append_seam}
+use Rattle.std.proofs.lemmas.List.{take_min}
 use Rattle.stages.specs.Stages.{line_space}
-use Rattle.lines.specs.Bytes.{held_bytes}
 use Rattle.lines.proofs.FirstLine.{held-few}
 use Rattle.lines.proofs.hold.Goals as goal
-use Rattle.lines.proofs.hold.Goals.{After-held_bytes-end}
+use Rattle.lines.proofs.hold.Goals.{After-held_bytes-held}
 
--- there is room for no more, or all is held
-module _ (bytes front : List ℕ) (i : ℕ) where
-  held-full : length front + i ≡ line_space → front ++ take i bytes ≡ take line_space (front ++ bytes)
-  held-full e = sym (take-append-add front bytes i) ∙ ap (λ (k : ℕ). take k (front ++ bytes)) e
+few : (c : After-held_bytes-held) → c.held_bytes-held.result ≤ line_space
+few c = omega (arith, c.held_bytes-held.ensures, held-few c.args.run)
 
-  held_all : length bytes ≤ i → length front + length bytes ≤ line_space → front ++ take i bytes ≡ take line_space (front ++ bytes)
-  held_all l h = rw (take_all i bytes l) (sym (take_all line_space (front ++ bytes) (simp length-append h)))
+-- bytes that take the room behind others, or all of them if they have room
+copied : (front bytes rest : List ℕ) (held more room : ℕ) → length front ≡ held → held + room ≡ line_space → more ≡ min (length bytes) room
+    → take (held + more) (front ++ (take more bytes ++ rest)) ≡ take line_space (front ++ bytes)
+copied front bytes rest held more room h full is =
+    let much : length (take more bytes) ≡ more = length-take-le more bytes (omega arith) in
+    let part : take more (take more bytes ++ rest) ≡ take more bytes = rw much at (take-append_seam (take more bytes) rest) in
+    let fewer : more ≡ min room (length bytes) = omega arith in
+    let all : take more bytes ≡ take room bytes = ap (λ (k : ℕ). take k bytes) fewer ∙ take_min room bytes in
+    let end : line_space ≡ length front + room = omega arith in
+    ap (λ (k : ℕ). take (k + more) (front ++ (take more bytes ++ rest))) (sym h)
+    ∙ take-append-add front (take more bytes ++ rest) more
+    ∙ ap (λ (xs : List ℕ). front ++ xs) (part ∙ all)
+    ∙ sym (ap (λ (k : ℕ). take k (front ++ bytes)) end ∙ take-append-add front bytes room)
 
--- what is held already
-front : (c : After-held_bytes-end) → List ℕ
-front c = take c.held_bytes-end.result c.args.line.now
+pub overflow_sub-room : goal.overflow_sub-room
+overflow_sub-room c = few (goal.at.overflow_sub-room c).After-held_bytes-held
 
-few : (c : After-held_bytes-end) → c.held_bytes-end.result ≤ line_space
-few c = omega (arith, c.held_bytes-end.ensures, held-few c.args.run)
-
-front_length : (c : After-held_bytes-end) → length (front c) ≡ c.held_bytes-end.result
-unfolding front
-front_length c = length-take-le _ _ (omega (arith, few c, c.requires))
-
-front-is : (c : After-held_bytes-end) → front c ≡ take (held_bytes c.args.run) c.args.line.now
-unfolding front
-front-is c = ap (λ (k : ℕ). take k c.args.line.now) c.held_bytes-end.ensures
-
-pub loop-i-init : goal.loop-i-init
-loop-i-init c = (omega arith, omega arith, few c, c.requires, sym (append-nil _))
-
-pub returns-then-end-eq-LINE_SPACE : goal.returns-then-end-eq-LINE_SPACE
-unfolding front
-returns-then-end-eq-LINE_SPACE c =
-    let (l, e, f, long, h) = c.loop-i.invariant in
-    let k = c in
-    record {
-      upper_bound = f;
-      line_after = rw (← front-is (goal.at.returns-then-end-eq-LINE_SPACE c).After-held_bytes-end) (h ∙ held-full k.args.bytes.now (front (goal.at.returns-then-end-eq-LINE_SPACE c).After-held_bytes-end) c.loop-i.i (omega (arith, front_length (goal.at.returns-then-end-eq-LINE_SPACE c).After-held_bytes-end)));
-    }
+pub slice_bounds-copy_from_slice-end : goal.slice_bounds-copy_from_slice-end
+slice_bounds-copy_from_slice-end c = omega (arith, c.min-more.ensures, few (goal.at.slice_bounds-copy_from_slice-end c).After-held_bytes-held)
 
 pub returns : goal.returns
-unfolding front
 returns c =
-    let (l, e, f, long, h) = c.loop-i.invariant in
-    let k = c in
+    let held = few (goal.at.returns c).After-held_bytes-held in
     record {
-      upper_bound = f;
-      line_after = rw (← front-is (goal.at.returns c).After-held_bytes-end) (h ∙ held_all k.args.bytes.now (front (goal.at.returns c).After-held_bytes-end) c.loop-i.i (omega arith) (omega (arith, front_length (goal.at.returns c).After-held_bytes-end)));
+      upper_bound = omega (arith, c.min-more.ensures, held);
+      line_after = rw (c.copy_from_slice.ensures.after, ← c.held_bytes-held.ensures) (copied _ _ _ _ _ _ (length-take-le _ _ (omega (arith, held))) (omega (arith, held)) c.min-more.ensures);
     }

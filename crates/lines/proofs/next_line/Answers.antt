@@ -1,19 +1,18 @@
 -- `next_line` meets its contract: with too few bytes to print to nothing is done. Assumes nothing.
-use mathlib.Core.Path.{◌≡◌, refl, sym}
+use mathlib.Core.Path.{◌≡◌, refl, sym, ◌∙◌}
 use mathlib.Core.List.{List}
-use Prim.Native.Nat.{ℕ, ◌+◌, ◌≤◌, ◌<◌}
+use Prim.Native.Nat.{ℕ, ◌+◌}
 use native.Mathlib.Nat.{add-zero}
-use native.Mathlib.Omega.{arith}
 use lib.ListN.{length, take}
-use borrow.Author.Tests.{le-leb, lt-leb}
+use borrow.Author.Tests.{leb-true}
+use mathlib.Core.Bool.{true, false}
 use Rattle.text.specs.Text.{written}
 use Rattle.text.proofs.WriteLaws.{written-empty}
-use Rattle.step.specs.Step.{row_space, roomy}
+use Rattle.step.specs.Step.{roomy}
 use Rattle.lines.specs.declared.Run.{Run}
 use Rattle.lines.specs.Bytes.{Progress, after_bytes, bytes_text, progress, used_bytes}
 use Rattle.lines.specs.Inner.{UsesLine}
 use Rattle.lines.proofs.next_line.Goals as goal
-use Rattle.lines.proofs.next_line.Goals.{After-first_line}
 
 module _ (run : Run) (buffer records chunk : List ℕ) (at : ℕ) (out : List ℕ) where
   abbrev at_first : Progress
@@ -27,46 +26,29 @@ module _ (run : Run) (buffer records chunk : List ℕ) (at : ℕ) (out : List �
       × ((len ≡ at + length (bytes_text at_first (take used chunk))) × (over ≡ written at (bytes_text at_first (take used chunk)) out)))
 
   -- without room
-  used-none : length out < at + row_space → Uses run buffer records 0 at out
-  unfolding used_bytes roomy after_bytes bytes_text
-  used-none full = rw (lt-leb (at + row_space) (length out) full) (refl, (refl, (sym (add-zero at), sym (written-empty at out))))
+  used-none : roomy at out ≡ false → Uses run buffer records 0 at out
+  unfolding used_bytes after_bytes bytes_text
+  used-none full = rw full (refl, (refl, (sym (add-zero at), sym (written-empty at out))))
 
   -- with room
-  used-line : at + row_space ≤ length out → (next : Run) (after left : List ℕ) (used len : ℕ) (over : List ℕ)
+  used-line : roomy at out ≡ true → (next : Run) (after left : List ℕ) (used len : ℕ) (over : List ℕ)
       → UsesLine run buffer records chunk at out next after left used len over → Uses next after left used len over
-  unfolding used_bytes roomy
-  used-line room next after left used len over (u, rest) = rw (le-leb (at + row_space) (length out) room) (u, rw (← u) at rest)
+  unfolding used_bytes
+  used-line room next after left used len over (u, rest) = rw room (u, rw (← u) at rest)
 
-room : (c : After-first_line) → c.args.at + row_space ≤ length c.args.out.now
-room c = omega arith
-
-pub returns-then-out-lt-ROW_SPACE : goal.returns-then-out-lt-ROW_SPACE
-returns-then-out-lt-ROW_SPACE c =
+pub returns-then-not-has_room : goal.returns-then-not-has_room
+unfolding roomy
+returns-then-not-has_room c =
     let a = c.args in
-    record {
-      used_value = (used-none a.run a.line.now a.records.now a.chunk.now a.at a.out.now (omega arith)).0;
-      records_after = (used-none a.run a.line.now a.records.now a.chunk.now a.at a.out.now (omega arith)).1.0;
-      len_value = (used-none a.run a.line.now a.records.now a.chunk.now a.at a.out.now (omega arith)).1.1.0;
-      out_after = (used-none a.run a.line.now a.records.now a.chunk.now a.at a.out.now (omega arith)).1.1.1;
-    }
+    let (u, (r, (l, o))) = used-none a.run a.line.now a.records.now a.chunk.now a.at a.out.now (sym c.has_room.ensures ∙ c.if-not-has_room.true) in
+    record { used_value = u; records_after = r; len_value = l; out_after = o }
 
-pub returns-then-out-at : goal.returns-then-out-at
-returns-then-out-at c =
-    let a = c.args in
-    record {
-      used_value = (used-none a.run a.line.now a.records.now a.chunk.now a.at a.out.now (omega arith)).0;
-      records_after = (used-none a.run a.line.now a.records.now a.chunk.now a.at a.out.now (omega arith)).1.0;
-      len_value = (used-none a.run a.line.now a.records.now a.chunk.now a.at a.out.now (omega arith)).1.1.0;
-      out_after = (used-none a.run a.line.now a.records.now a.chunk.now a.at a.out.now (omega arith)).1.1.1;
-    }
+pub first_line-requires : goal.first_line-requires
+first_line-requires c = leb-true _ _ (sym c.has_room.ensures ∙ c.if-not-has_room.false)
 
 pub returns : goal.returns
+unfolding roomy
 returns c =
-    let f = c in
-    let a = f.args in
-    record {
-      used_value = (used-line a.run a.line.now a.records.now a.chunk.now a.at a.out.now (room (goal.at.returns c).After-first_line) _ _ _ _ _ _ f.first_line.ensures).0;
-      records_after = (used-line a.run a.line.now a.records.now a.chunk.now a.at a.out.now (room (goal.at.returns c).After-first_line) _ _ _ _ _ _ f.first_line.ensures).1.0;
-      len_value = (used-line a.run a.line.now a.records.now a.chunk.now a.at a.out.now (room (goal.at.returns c).After-first_line) _ _ _ _ _ _ f.first_line.ensures).1.1.0;
-      out_after = (used-line a.run a.line.now a.records.now a.chunk.now a.at a.out.now (room (goal.at.returns c).After-first_line) _ _ _ _ _ _ f.first_line.ensures).1.1.1;
-    }
+    let a = c.args in
+    let (u, (r, (l, o))) = used-line a.run a.line.now a.records.now a.chunk.now a.at a.out.now (sym c.has_room.ensures ∙ c.if-not-has_room.false) _ _ _ _ _ _ c.first_line.ensures in
+    record { used_value = u; records_after = r; len_value = l; out_after = o }

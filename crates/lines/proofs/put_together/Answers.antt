@@ -1,10 +1,11 @@
 -- `put_together` meets its contract. Assumes nothing.
-use mathlib.Core.Path.{◌≡◌, ◌∙◌}
+use mathlib.Core.Path.{◌≡◌, sym, ◌∙◌}
 use native.Mathlib.Omega.{arith}
 use lib.ListN.{take}
+use lib.Seq.{length-take-le}
 use Rattle.text.specs.Text.{line_feed}
 use Rattle.text.proofs.Fields.{before-le}
-use Rattle.lines.proofs.FirstLine.{front-part, line_held, line-held, uses-part, uses-ended}
+use Rattle.lines.proofs.FirstLine.{line_held, line-held, uses-part, uses-ended}
 use Rattle.lines.proofs.put_together.Goals as goal
 use Rattle.lines.proofs.put_together.Goals.{After-hold-held}
 
@@ -17,7 +18,7 @@ held-line c =
     c.hold-held.ensures.line_after ∙ line-held s.run s.line.now s.records.now s.chunk.now s.at s.out.now _ c.find-end.ensures
 
 pub slice_bounds-hold-end : goal.slice_bounds-hold-end
-slice_bounds-hold-end c = omega (arith, c.find-end.ensures, before-le line_feed c.args.chunk.now)
+slice_bounds-hold-end c = sym (length-take-le _ _ (omega (arith, c.find-end.ensures, before-le line_feed c.args.chunk.now)))
 
 pub returns-then-end-chunk : goal.returns-then-end-chunk
 returns-then-end-chunk c =
@@ -25,11 +26,14 @@ returns-then-end-chunk c =
     let s = h.args in
     uses-part s.run s.line.now s.records.now s.chunk.now s.at s.out.now _ h.find-end.ensures _ c.if-end-chunk.true _ h.hold-held.ensures.upper_bound (held-line (goal.at.returns-then-end-chunk c).After-hold-held)
 
+pub overflow_add-result : goal.overflow_add-result
+overflow_add-result c = omega (arith, c.find-end.ensures, before-le line_feed c.args.chunk.now)
+
 pub returns : goal.returns
 returns c =
     let e = c in
     let h = c in
     let s = c in
     let a = s.args in
-    uses-ended a.run a.line.now a.records.now a.chunk.now a.at a.out.now _ h.find-end.ensures _ e.if-end-chunk.false s.requires.row_space_in_bounds
-    _ (front-part h.hold-held.result h.hold-held.new.line ∙ held-line (goal.at.returns c).After-hold-held) _ _ _ _ (e.end_line-ended.ensures.state_value, (e.end_line-ended.ensures.records_after, (e.end_line-ended.ensures.len_value, e.end_line-ended.ensures.out_after)))
+    uses-ended a.run a.line.now a.records.now a.chunk.now a.at a.out.now _ h.find-end.ensures _ e.if-end-chunk.false s.requires
+    _ (held-line (goal.at.returns c).After-hold-held) _ _ _ _ (e.end_line-ended.ensures.state_value, (e.end_line-ended.ensures.records_after, (e.end_line-ended.ensures.len_value, e.end_line-ended.ensures.out_after)))

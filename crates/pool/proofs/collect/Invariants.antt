@@ -1,8 +1,8 @@
 -- `collect` meets its contract: the records of the senders before `sender` are well-formed, and the first `count` values are their pool. Assumes nothing.
 use mathlib.Core.Path.{◌≡◌}
 use mathlib.Core.Bool.{true}
-use Prim.Native.Nat.{◌-◌, ◌≤◌}
-use lib.ListN.{length, take}
+use Prim.Native.Nat.{◌≤◌}
+use lib.ListN.{take}
 use Rattle.protocol.specs.Trace.{each}
 use Rattle.calls.specs.WellFormed.{sender_well_formed}
 use Rattle.pool.specs.Pool.{pooled}
@@ -10,9 +10,6 @@ use Rattle.pool.proofs.collect.Given as goal
 
 abbrev pub invariant-loop-sender : goal.invariant-loop-sender
 invariant-loop-sender l =
-    (l.sender ≤ l.config.n) × (l.count ≤ l.sender) × (length l.values ≡ 64)
-    × (each (sender_well_formed l.config l.records) l.sender ≡ true)
-    × (take l.count l.values ≡ pooled l.config l.records l.sender)
-
-abbrev pub decreases-loop-sender : goal.decreases-loop-sender
-decreases-loop-sender l = l.config.n - l.sender
+    (l.count ≤ l.sender)
+    × (each (sender_well_formed l.day.config l.day.records.now) l.sender ≡ true)
+    × (take l.count l.values ≡ pooled l.day.config l.day.records.now l.sender)

@@ -1,98 +1,64 @@
 -- `setpoint` meets its contract: each return follows from the tests passed before it. Assumes nothing.
-use mathlib.Core.Path.{◌≡◌, sym, ap, ◌∙◌, subst}
+use mathlib.Core.Path.{◌≡◌, sym, ap, ap₂, ◌∙◌}
 use mathlib.Core.Bool.{true}
-use mathlib.Core.List.{List}
-use Prim.Native.Nat.{ℕ, ◌≤◌}
 use native.Mathlib.Omega.{arith}
-use lib.IntN.{ℤ}
 use lib.ListN.{length, take}
 use lib.Seq.{length-take-le}
 use mir.Facts.{to_z-of_z}
 use mir.Syntax.{w16}
+use Rattle.std.proofs.lemmas.Result.{err_from_is_err_and}
 use Rattle.refusal.specs.Outcome.{done}
-use Rattle.config.specs.declared.Config.{Config}
-use Rattle.config.specs.Config.{good, records_size}
+use Rattle.refusal.proofs.Passed.{passed-on}
 use Rattle.calls.specs.WellFormed.{all_well_formed}
+use Rattle.calls.proofs.Days.{Made, day-made, made-formed}
 use Rattle.middle.specs.Middle.{lower_middle}
 use Rattle.pool.specs.Pool.{pool}
-use Rattle.pool.specs.declared.Collection.{Collection}
-use Rattle.pool.specs.declared.Collection.TheVariants.{Pool, Malformed}
-use Rattle.pool.specs.Inner.{Collects}
-use Rattle.pool.proofs.Pool.{setpoint-bad, setpoint-size, setpoint-malformed, setpoint-few, setpoint-done}
+use Rattle.pool.proofs.Pool.{setpoint-dayless, setpoint-malformed, setpoint-few, setpoint-done}
 use Rattle.pool.proofs.setpoint.Goals as goal
-use Rattle.pool.proofs.setpoint.Goals.{After-collect-collection, Else-records-records_size, In-Pool, Start}
+use Rattle.pool.proofs.setpoint.Goals.{In_ok-count, In_ok-day}
 
--- ---- what is known on the way
-module _ (c : Else-records-records_size) where
-  abbrev start : Start
-  start = (goal.at.Else-records-records_size c).Start
+-- the day has what was given
+made : (c : In_ok-day) → Made c.args.config c.args.records.now (c.in_ok-day.day.config, c.in_ok-day.day.records.now)
+made c = day-made _ _ _ c.in_ok-day.ensures
 
-  abbrev config : Config
-  config = start.args.config
+-- ---- where the pool was collected
+module _ (c : In_ok-count) where
+  abbrev known : Made c.args.config c.args.records.now (c.in_ok-day.day.config, c.in_ok-day.day.records.now)
+  known = made (goal.at.In_ok-count c).In_ok-day
 
-  abbrev records : List ℕ
-  records = start.args.records.now
+  formed : all_well_formed c.args.config c.args.records.now ≡ true
+  formed = made-formed _ _ _ known ∙ c.in_ok-count.ensures.0
 
-  good-known : good config ≡ true
-  good-known = sym c.good.ensures ∙ c.if-not-good.false
+  pooled_known : take c.in_ok-count.count c.collect.new.values ≡ pool c.args.config c.args.records.now
+  pooled_known = c.in_ok-count.ensures.2 ∙ ap₂ pool known.config_is known.records_is
 
-  size-known : length records ≡ records_size config
-  size-known = c.if-records-records_size.false ∙ c.records_size.ensures
+  -- the pool has as many values as were collected
+  pool-length : length (pool c.args.config c.args.records.now) ≡ c.in_ok-count.count
+  pool-length =
+      let few = c.in_ok-count.ensures.1 in
+      let kept = c.collect.auto in
+      ap length (sym pooled_known) ∙ length-take-le c.in_ok-count.count c.collect.new.values (omega arith)
 
--- what was collected
-module _ (c : After-collect-collection) where
-  abbrev sized : Else-records-records_size
-  sized = (goal.at.After-collect-collection c).Else-records-records_size
+-- no day is made of a configuration that is not good, or of records of another length
+pub returns-in_err-day : goal.returns-in_err-day
+returns-in_err-day c = passed-on _ _ _ c.from_residual.ensures.1 ∙ setpoint-dayless _ _ _ c.in_err-day.ensures
 
-  abbrev values : List ℤ
-  values = c.collect-collection.new.values
+pub returns-in_err-count : goal.returns-in_err-count
+returns-in_err-count c =
+    let known = made (goal.at.returns-in_err-count c).In_ok-day in
+    let told = err_from_is_err_and c.from_residual-in_err-count.result c.from_residual-in_err-count.ensures.1 in
+    rw (told.1, told.2, c.in_err-count.ensures.1)
+    (sym (setpoint-malformed _ _ known.config_good known.records_whole (made-formed _ _ _ known ∙ c.in_err-count.ensures.0)))
 
-  collects : (r : Collection) → c.collect-collection.result ≡ r → Collects (config sized) (records sized) r values
-  collects r is = subst (λ (x : Collection). Collects (config sized) (records sized) x values) is c.collect-collection.ensures
-
--- the pool, where there is one
-module _ (c : In-Pool) where
-  abbrev collected : After-collect-collection
-  collected = (goal.at.In-Pool c).After-collect-collection
-
-  abbrev count : ℕ
-  count = c.in-Pool.count
-
-  pooled : (all_well_formed (config (sized collected)) (records (sized collected)) ≡ true) × (count ≤ 64)
-      × (take count (values collected) ≡ pool (config (sized collected)) (records (sized collected)))
-  pooled = collects collected (Pool count) c.in-Pool.is
-
-  long : length (values collected) ≡ 64
-  long = let kept = collected.collect-collection.auto in omega arith
-
-  pool-length : length (pool (config (sized collected)) (records (sized collected))) ≡ count
-  pool-length = let room = long in let fits = pooled.1 in ap length (sym pooled.2) ∙ length-take-le count (values collected) (omega arith)
-
-pub returns-then-not-good : goal.returns-then-not-good
-returns-then-not-good c = rw (setpoint-bad _ _ (sym c.good.ensures ∙ c.if-not-good.true))
-
-pub returns-then-records-records_size : goal.returns-then-records-records_size
-returns-then-records-records_size c =
-    let good-at = sym c.good.ensures ∙ c.if-not-good.false in
-    rw (setpoint-size _ _ good-at (λ q. c.if-records-records_size.true (q ∙ sym c.records_size.ensures)))
-
-pub returns-in_default : goal.returns-in_default
-returns-in_default c =
-    let collected = (goal.at.returns-in_default c).After-collect-collection in
-    let ok = sized collected in
-    rw (setpoint-malformed (config ok) (records ok) (good-known ok) (size-known ok) (collects collected Malformed c.in_default.is))
-
-pub returns-then-count-config : goal.returns-then-count-config
-returns-then-count-config c =
-    let found = (goal.at.returns-then-count-config c).In-Pool in
-    let ok = sized (collected found) in
-    let few = pool-length found in
-    rw (setpoint-few (config ok) (records ok) (good-known ok) (size-known ok) (pooled found).0 (omega arith))
+pub returns-then-count-from : goal.returns-then-count-from
+returns-then-count-from c =
+    let at = (goal.at.returns-then-count-from c).In_ok-count in
+    let many = pool-length at in
+    sym (setpoint-few _ _ (known at).config_good (known at).records_whole (formed at) (omega arith))
 
 pub returns : goal.returns
 returns c =
-    let found = (goal.at.returns c).In-Pool in
-    let ok = sized (collected found) in
-    let enough = pool-length found in
-    ap done (to_z-of_z {w = w16} (record { sfits = c.lower_middle.type_inv }) ∙ (c.lower_middle.ensures.value ∙ ap lower_middle (pooled found).2))
-    ∙ sym (setpoint-done (config ok) (records ok) (good-known ok) (size-known ok) (pooled found).0 (omega arith))
+    let at = (goal.at.returns c).In_ok-count in
+    let many = pool-length at in
+    ap done (to_z-of_z {w = w16} (record { sfits = c.lower_middle.type_inv }) ∙ (c.lower_middle.ensures.value ∙ ap lower_middle (pooled_known at)))
+    ∙ sym (setpoint-done _ _ (known at).config_good (known at).records_whole (formed at) (omega arith))

@@ -1,55 +1,49 @@
 -- `read_row` meets its contract: the first two bytes say which act it is. Assumes nothing.
 use mathlib.Core.Path.{◌≡◌, sym, ◌∙◌}
-use mathlib.Core.List.{List, [], ◌∷◌}
-use Prim.Native.Nat.{ℕ}
+use mathlib.Core.List.{[], ◌∷◌}
 use native.Mathlib.Omega.{arith}
 use lib.ListN.{get_or, drop}
 use Rattle.text.specs.Text.{ascii, after_fields}
 use Rattle.row.specs.Row.{act}
-use Rattle.row.proofs.StepRows.{row-no-act, row-no-node, row-broadcast, row-receive, short-no-node, letter-there, letter-read}
+use Rattle.row.proofs.StepRows.{row-no-letter, row-no-node, row-broadcast, row-receive, short-no-node, letter-read}
 use Rattle.row.proofs.read_row.Goals as goal
-use Rattle.row.proofs.read_row.Goals.{Else-line-lt2, Else-line-ne32}
+use Rattle.row.proofs.read_row.Goals.{In-66, In-65}
 
--- ---- the places
-abbrev long : Else-line-ne32 → Else-line-lt2
-long c = (goal.at.Else-line-ne32 c).Else-line-lt2
+-- ---- the act of a line that starts with its letter and a space
+act-b : (c : In-66) → (act c.args.line.now ≡ 66 ∷ []) × (after_fields 1 c.args.line.now ≡ drop 2 c.args.line.now)
+act-b c =
+    let first : get_or c.args.line.now 0 0 ≡ 66 = omega arith in
+    let second : get_or c.args.line.now 1 0 ≡ 32 = omega arith in
+    letter-read 66 c.args.line.now c.in-66.len_at_least (λ q. omega arith) first second
 
-abbrev line : Else-line-lt2 → List ℕ
-line c = c.args.line.now
+act-a : (c : In-65) → (act c.args.line.now ≡ 65 ∷ []) × (after_fields 1 c.args.line.now ≡ drop 2 c.args.line.now)
+act-a c =
+    let first : get_or c.args.line.now 0 0 ≡ 65 = omega arith in
+    let second : get_or c.args.line.now 1 0 ≡ 32 = omega arith in
+    letter-read 65 c.args.line.now c.in-65.len_at_least (λ q. omega arith) first second
 
--- the act of a row with a space at index 1, by its letter
-letter : (c : Else-line-ne32) (x : ℕ) → (x ≡ 32 → ⊥) → get_or (line (long c)) 0 0 ≡ x → (act (line (long c)) ≡ x ∷ []) × (after_fields 1 (line (long c)) ≡ drop 2 (line (long c)))
-letter c x other here = letter-read x (line (long c)) c.if-line-lt2.false other here c.if-line-ne32.false
+pub invariant_of-receive : goal.invariant_of-receive
+invariant_of-receive c = record { after_act = (act-b c).1 }
 
-pub returns-then-line-lt2 : goal.returns-then-line-lt2
-returns-then-line-lt2 c = row-no-node _ _ (short-no-node _ _ c.if-line-lt2.true)
+pub invariant_of-broadcast : goal.invariant_of-broadcast
+invariant_of-broadcast c = record { after_act = (act-a c).1 }
 
-pub returns-then-line-ne32 : goal.returns-then-line-ne32
+pub returns-in-66 : goal.returns-in-66
 unfolding ascii
-returns-then-line-ne32 c =
-    let before = c in
-    row-no-act _ _ (λ a. c.if-line-ne32.true (letter-there 65 (line (goal.at.returns-then-line-ne32 c).Else-line-lt2) before.if-line-lt2.false a).1) (λ b. c.if-line-ne32.true (letter-there 66 (line (goal.at.returns-then-line-ne32 c).Else-line-lt2) before.if-line-lt2.false b).1)
+returns-in-66 c = c.receive.ensures ∙ sym (row-receive _ _ (act-b (goal.at.returns-in-66 c).In-66).0)
 
-pub receive-requires : goal.receive-requires
-receive-requires c = (letter (goal.at.receive-requires c).Else-line-ne32 66 (λ q. omega arith) c.if-act-eq66.true).1
-
-pub returns-then-act-eq66 : goal.returns-then-act-eq66
+pub returns-in-65 : goal.returns-in-65
 unfolding ascii
-returns-then-act-eq66 c =
-    let before = c in
-    c.receive.ensures ∙ sym (row-receive _ _ (letter (goal.at.returns-then-act-eq66 c).Else-line-ne32 66 (λ q. omega arith) c.if-act-eq66.true).0)
+returns-in-65 c = c.broadcast.ensures ∙ sym (row-broadcast _ _ (act-a (goal.at.returns-in-65 c).In-65).0)
 
-pub broadcast-requires : goal.broadcast-requires
-broadcast-requires c = (letter (goal.at.broadcast-requires c).Else-line-ne32 65 (λ q. omega arith) c.if-act-eq65.true).1
+pub returns-in_default : goal.returns-in_default
+returns-in_default c = row-no-node _ _ (short-no-node _ _ c.in_default.len_below)
 
-pub returns-then-act-eq65 : goal.returns-then-act-eq65
-unfolding ascii
-returns-then-act-eq65 c =
-    let before = c in
-    c.broadcast.ensures ∙ sym (row-broadcast _ _ (letter (goal.at.returns-then-act-eq65 c).Else-line-ne32 65 (λ q. omega arith) c.if-act-eq65.true).0)
+pub returns-in_default-2 : goal.returns-in_default-2
+returns-in_default-2 c = row-no-letter _ _ c.in_default.len_at_least (λ first second. omega arith) (λ first second. omega arith)
 
-pub returns : goal.returns
-unfolding ascii
-returns c =
-    let before = c in
-    row-no-act _ _ (λ a. c.if-act-eq65.false (letter-there 65 (line (goal.at.returns c).Else-line-lt2) before.if-line-lt2.false a).0) (λ b. c.if-act-eq66.false (letter-there 66 (line (goal.at.returns c).Else-line-lt2) before.if-line-lt2.false b).0)
+pub returns-in_default-3 : goal.returns-in_default-3
+returns-in_default-3 c = row-no-letter _ _ c.in_default.len_at_least (λ first second. omega arith) (λ first second. omega arith)
+
+pub returns-in_default-4 : goal.returns-in_default-4
+returns-in_default-4 c = row-no-letter _ _ c.in_default.len_at_least (λ first second. omega arith) (λ first second. omega arith)

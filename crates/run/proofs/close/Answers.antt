@@ -52,9 +52,9 @@ returns-in-Steps c =
       out_after = rw (closing-steps a.state a.records.now t.in-Steps.is) ((rows_written _ _ _ _ _ s.requires (c.print.ensures.value, c.print.ensures.out_after)).1);
     }
 
-pub returns : goal.returns
+pub returns-in_default : goal.returns-in_default
 unfolding no_table ascii
-returns c =
+returns-in_default c =
     let k = c in
     let s = c in
     let room : s.args.at + 9 ≤ length s.args.out.now = omega (arith, s.requires) in

@@ -1,55 +1,50 @@
 -- `feed` meets its contract: the lines of the piece are played, and what is held of the next is counted and cleared behind. Assumes nothing.
-use mathlib.Core.Path.{◌≡◌, ap, ◌∙◌}
-use mathlib.Core.List.{List}
-use Prim.Native.Nat.{ℕ, ◌-◌}
+use mathlib.Core.Path.{◌≡◌, refl, ◌∙◌}
+use mathlib.Core.List.{List, [], ◌++◌, append-nil}
+use Prim.Native.Nat.{ℕ, ◌-◌, ◌≤◌}
 use native.Mathlib.Omega.{arith}
-use lib.ListN.{length, take, drop}
+use lib.ListN.{length, take, drop, replicate, length-drop}
 use lib.Seq.{length-take-le}
+use Rattle.std.proofs.lemmas.List.{drop_all}
 use Rattle.stages.specs.Stages.{line_space}
-use Rattle.lines.proofs.FirstLine.{held-few, front-part}
+use Rattle.lines.proofs.FirstLine.{held-few}
 use Rattle.lines.proofs.Kept.{cleared-is-kept}
-use Rattle.run.specs.Stream.{used_of_piece, after_piece, piece_text}
+use Rattle.run.specs.Stream.{after_piece, piece_text}
 use Rattle.run.proofs.feed.Goals as goal
-use Rattle.run.proofs.feed.Goals.{After-feed_lines-fed, After-used_of_piece-end}
 
--- ---- the places on the way, each from a later one, and what is known there
-abbrev measured : After-feed_lines-fed → After-used_of_piece-end
-measured c = (goal.at.After-feed_lines-fed c).After-used_of_piece-end
+-- zeros from an index of the line's buffer on, and nothing behind them
+cleared-behind : (held : ℕ) (buffer zeros rest : List ℕ) → length buffer ≡ line_space → held ≤ line_space
+    → zeros ≡ replicate (length (take (line_space - held) (drop held buffer))) 0 → rest ≡ drop (line_space - held) (drop held buffer)
+    → take held buffer ++ (zeros ++ rest) ≡ take held buffer ++ replicate (length buffer - held) 0
+cleared-behind held buffer zeros rest size few z r =
+    let long : length (drop held buffer) ≡ line_space - held = omega (arith, length-drop held buffer) in
+    let count : length (take (line_space - held) (drop held buffer)) ≡ length buffer - held = omega (arith, length-take-le (line_space - held) (drop held buffer) (omega arith)) in
+    let none : rest ≡ [] = r ∙ drop_all (line_space - held) (drop held buffer) (omega arith) in
+    rw (z, count, none, append-nil)
 
--- the part that was played is what is used of the piece
-part-used : (c : After-used_of_piece-end)
-    → take (c.used_of_piece-end.result - 0) (drop 0 c.args.chunk.now) ≡ take (used_of_piece c.args.chunk.now) c.args.chunk.now
-part-used c =
-    front-part c.used_of_piece-end.result c.args.chunk.now
-    ∙ ap (λ (k : ℕ). take k c.args.chunk.now) c.used_of_piece-end.ensures
+pub slice_bounds-fill-count : goal.slice_bounds-fill-count
+slice_bounds-fill-count c = omega (arith, c.held_bytes-held.ensures, held-few c.feed_lines-fed.result.run)
 
-pub clear_behind-requires : goal.clear_behind-requires
-clear_behind-requires c =
-    let m = c in
-    omega (arith, m.held_bytes-held.ensures, held-few m.feed_lines-fed.result.run, c.clear_behind-arg-1.given.0.1)
+pub slice_bounds-fill-start : goal.slice_bounds-fill-start
+slice_bounds-fill-start c = omega (arith, c.held_bytes-held.ensures, held-few c.feed_lines-fed.result.run)
 
 pub returns : goal.returns
 unfolding after_piece piece_text
 returns c =
-    let m = c in
-    let f = c in
-    let a = f.args in
-    let buffer : List ℕ = f.feed_lines-fed.new.line in
-    let size : length buffer ≡ line_space = omega (arith, c.clear_behind-arg-1.given.0.1) in
-    let used = part-used (goal.at.returns c).After-used_of_piece-end in
-    let known = rw used at f.feed_lines-fed.ensures.records_after in
-    let all = rw used at f.feed_lines-fed.ensures.used_value in
-    let printed = rw used at f.feed_lines-fed.ensures.len_value in
-    let text = rw used at f.feed_lines-fed.ensures.out_after in
+    let a = c.args in
+    let fed = c.feed_lines-fed.ensures in
+    let held : c.held_bytes-held.result ≤ line_space = omega (arith, c.held_bytes-held.ensures, held-few c.feed_lines-fed.result.run) in
+    let buffer : List ℕ = c.feed_lines-fed.new.line in
+    let size : length buffer ≡ line_space = omega arith in
     let (run, (line, records)) =
-    cleared-is-kept f.feed_lines-fed.result.run buffer f.feed_lines-fed.new.records size m.held_bytes-held.result m.held_bytes-held.ensures
-    (after_piece a.run a.line.now a.records.now a.chunk.now) known in
+    cleared-is-kept c.feed_lines-fed.result.run buffer c.feed_lines-fed.new.records size c.held_bytes-held.result c.held_bytes-held.ensures
+    (after_piece a.run a.line.now a.records.now a.chunk.now) (rw c.min-used.ensures at fed.records_after) in
     record {
-      used_value = all ∙ length-take-le (used_of_piece a.chunk.now) a.chunk.now (omega arith);
+      used_value = fed.used_value ∙ length-take-le _ _ (omega (arith, c.min-used.ensures)) ∙ c.min-used.ensures;
       run_value = run;
-      line_after = c.clear_behind.ensures ∙ line;
+      line_after = cleared-behind _ buffer _ _ size held (c.fill.ensures.after (λ _ e. e)) refl ∙ line;
       records_after = records;
-      len_value = printed;
-      out_after = text;
-      len_in_bounds = f.feed_lines-fed.ensures.len_in_bounds;
+      len_value = rw c.min-used.ensures at fed.len_value;
+      out_after = rw c.min-used.ensures at fed.out_after;
+      len_in_bounds = fed.len_in_bounds;
     }

@@ -7,11 +7,11 @@ use Rattle.run.specs.Stream.{out_space}
 use Rattle.run.proofs.LineAfterLine.{SoFar}
 use Rattle.run.proofs.feed_lines.Given as goal
 
-abbrev pub invariant-loop-at : goal.invariant-loop-at
-invariant-loop-at l =
-    (l.at ≤ length l.chunk)
+abbrev pub invariant-loop-fed : goal.invariant-loop-fed
+invariant-loop-fed l =
+    (l.fed.used ≤ length l.chunk)
     × (length l.out ≡ out_space)
-    × SoFar (progress l.initial.now l.initial.line l.initial.records) l.chunk l.initial.out l.at l.now l.line l.records l.len l.out
+    × SoFar (progress l.fn.run l.fn.line l.fn.records) l.chunk l.initial.out l.fed.used l.fed.run l.line l.records l.fed.len l.out
 
-abbrev pub decreases-loop-at : goal.decreases-loop-at
-decreases-loop-at l = length l.chunk - l.at
+abbrev pub decreases-loop-fed : goal.decreases-loop-fed
+decreases-loop-fed l = length l.chunk - l.fed.used

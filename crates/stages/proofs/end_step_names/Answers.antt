@@ -3,10 +3,8 @@ use Rattle.std.proofs.Common.{sym, ◌∙◌}
 use Rattle.nodes.proofs.Printing.{prints-nothing}
 use Rattle.stages.proofs.end_step_names.Goals as goal
 
-pub returns : goal.returns
-returns c = record {
-  state_value = rw (sym c.is_step_names.ensures ∙ c.if-is_step_names.false) c.with_stage.ensures;
-  records_after = rw (sym c.is_step_names.ensures ∙ c.if-is_step_names.false);
-  len_value = rw (sym c.is_step_names.ensures ∙ c.if-is_step_names.false) ((prints-nothing _ _).0);
-  out_after = rw (sym c.is_step_names.ensures ∙ c.if-is_step_names.false) ((prints-nothing _ _).1);
-}
+pub returns-else-is_step_names-clause-len_value : goal.returns-else-is_step_names-clause-len_value
+returns-else-is_step_names-clause-len_value c = rw (sym c.is_step_names.ensures ∙ c.if-is_step_names.false) (prints-nothing _ _).0
+
+pub returns-else-is_step_names-clause-out_after : goal.returns-else-is_step_names-clause-out_after
+returns-else-is_step_names-clause-out_after c = rw (sym c.is_step_names.ensures ∙ c.if-is_step_names.false) (prints-nothing _ _).1

@@ -28,8 +28,8 @@ returns-in-Steps c = record {
   records_after = rw c.in-Steps.is c.play_line.ensures.records_after;
 }
 
-pub returns : goal.returns
-returns c =
+pub returns-in_default : goal.returns-in_default
+returns-in_default c =
     let s = c.args in
     let (t, r) = not-steps s.state s.line.now s.records.now c.in_default.not-Steps in
     let (l, o) = prints-nothing s.at s.out.now in

@@ -1,79 +1,57 @@
 -- `print` meets its contract. Assumes nothing.
-use mathlib.Core.Path.{refl}
-use native.Mathlib.Omega.{arith}
-use Rattle.text.specs.Text.{ascii}
-use Rattle.step.specs.Step.{answered, act_by, step_text}
-use Rattle.text.proofs.WrittenTexts.{puts, puts-all, ◌then◌}
+use mathlib.Core.Path.{ap, sym, ◌∙◌}
+use mathlib.Core.List.{◌++◌}
+use Rattle.step.specs.declared.Answer.{Answer}
+use borrow.Author.Tests.{leb-true}
+use Rattle.text.specs.Text.{ascii, decimal}
+use Rattle.step.specs.Step.{answered, act_by, answer_text, step_text}
+use Rattle.text.proofs.WrittenTexts.{Puts, puts, puts-as, puts-all, ◌then◌}
 use Rattle.step.proofs.PrintedRows.{printed, printed-not}
 use Rattle.step.proofs.Answers.{act-by-length, front-room, step-length}
 use Rattle.step.proofs.print.Goals as goal
+use Rattle.step.proofs.print.Goals.{After-decimal-c}
 
-pub returns-then-out-lt-ROW_SPACE : goal.returns-then-out-lt-ROW_SPACE
-returns-then-out-lt-ROW_SPACE c = let a = c.args in
-    record {
-      value = (printed-not a.at _ a.out.now (omega arith)).0;
-      out_after = (printed-not a.at _ a.out.now (omega arith)).1;
-    }
+-- ---- what stands before the answer
+ordinal-put : (c : After-decimal-c) → Puts c.args.at (decimal c.args.ordinal) c.args.out.now c.decimal-a.result c.decimal-a.new.out
+ordinal-put c = puts (c.decimal-a.ensures.value, c.decimal-a.ensures.out_after)
 
-pub returns-then-out-at : goal.returns-then-out-at
-returns-then-out-at c = let a = c.args in
-    record {
-      value = (printed-not a.at _ a.out.now (omega arith)).0;
-      out_after = (printed-not a.at _ a.out.now (omega arith)).1;
-    }
+act-put : (c : After-decimal-c) → Puts c.decimal-a.result (act_by c.args.answer) c.decimal-a.new.out c.put-b.result c.put-b.new.out
+act-put c = puts-as c.act.ensures (puts (c.put-b.ensures.value, c.put-b.ensures.out_after))
+
+node-put : (c : After-decimal-c) → Puts c.put-b.result (decimal c.args.node) c.put-b.new.out c.decimal-c.result c.decimal-c.new.out
+node-put c = puts-as (ap decimal c.from.ensures) (puts (c.decimal-c.ensures.value, c.decimal-c.ensures.out_after))
+
+pub returns-then-not-has_room : goal.returns-then-not-has_room
+returns-then-not-has_room c =
+    let w = printed-not c.args.at _ c.args.out.now (sym c.has_room.ensures ∙ c.if-not-has_room.true) in
+    record { value = w.0; out_after = w.1 }
 
 pub announced-requires : goal.announced-requires
-unfolding ascii
 announced-requires c =
-    let node = c in
-    let act = node in
-    let ordinal = act in
-    let a = ordinal.args in
-    front-room a.ordinal a.node _ refl (puts (ordinal.decimal-a.ensures.value, ordinal.decimal-a.ensures.out_after)) (puts (act.put-b.ensures.value, act.put-b.ensures.out_after)) (puts (node.decimal-c.ensures.value, node.decimal-c.ensures.out_after)) (omega arith)
+    let p = (goal.at.announced-requires c).After-decimal-c in
+    front-room p.args.ordinal p.args.node _ (act-by-length p.args.answer) (ordinal-put p) (act-put p) (node-put p) (leb-true _ _ (sym c.has_room.ensures ∙ c.if-not-has_room.false))
 
 pub received-requires : goal.received-requires
-unfolding ascii
 received-requires c =
-    let node = c in
-    let act = node in
-    let ordinal = act in
-    let a = ordinal.args in
-    front-room a.ordinal a.node _ refl (puts (ordinal.decimal-a.ensures.value, ordinal.decimal-a.ensures.out_after)) (puts (act.put-b-in-Receive.ensures.value, act.put-b-in-Receive.ensures.out_after)) (puts (node.decimal-c-in-Receive.ensures.value, node.decimal-c-in-Receive.ensures.out_after)) (omega arith)
+    let p = (goal.at.received-requires c).After-decimal-c in
+    front-room p.args.ordinal p.args.node _ (act-by-length p.args.answer) (ordinal-put p) (act-put p) (node-put p) (leb-true _ _ (sym c.has_room.ensures ∙ c.if-not-has_room.false))
 
 pub returns-in-Broadcast : goal.returns-in-Broadcast
-unfolding step_text ascii
+unfolding step_text
 returns-in-Broadcast c =
-    let answer = c in
-    let node = answer in
-    let act = node in
-    let arm = act in
-    let ordinal = arm in
-    let a = ordinal.args in
+    let p = (goal.at.returns-in-Broadcast c).After-decimal-c in
+    let a = c.args in
     let short = step-length a.ordinal a.node (act_by a.answer) (act-by-length a.answer) (answered a.answer) in
-    record {
-      value = (printed a.at _ a.out.now answer.announced.result answer.announced.new.out short (omega arith)
-          (rw arm.in-Broadcast.is
-          (puts (ordinal.decimal-a.ensures.value, ordinal.decimal-a.ensures.out_after) then puts (act.put-b.ensures.value, act.put-b.ensures.out_after) then puts (node.decimal-c.ensures.value, node.decimal-c.ensures.out_after) then puts-all (answer.announced.ensures.value, answer.announced.ensures.out_after)))).0;
-      out_after = (printed a.at _ a.out.now answer.announced.result answer.announced.new.out short (omega arith)
-          (rw arm.in-Broadcast.is
-          (puts (ordinal.decimal-a.ensures.value, ordinal.decimal-a.ensures.out_after) then puts (act.put-b.ensures.value, act.put-b.ensures.out_after) then puts (node.decimal-c.ensures.value, node.decimal-c.ensures.out_after) then puts-all (answer.announced.ensures.value, answer.announced.ensures.out_after)))).1;
-    }
+    let rest = puts-as (ap (λ (r : Answer). ascii " " ++ answer_text (answered r)) (sym c.in-Broadcast.is)) (puts-all (c.announced.ensures.value, c.announced.ensures.out_after)) in
+    let w = printed a.at _ a.out.now _ _ short (sym c.has_room.ensures ∙ c.if-not-has_room.false) (ordinal-put p then act-put p then node-put p then rest) in
+    record { value = w.0; out_after = w.1 }
 
 pub returns-in-Receive : goal.returns-in-Receive
-unfolding step_text ascii
+unfolding step_text
 returns-in-Receive c =
-    let answer = c in
-    let node = answer in
-    let act = node in
-    let arm = act in
-    let ordinal = arm in
-    let a = ordinal.args in
+    let p = (goal.at.returns-in-Receive c).After-decimal-c in
+    let a = c.args in
     let short = step-length a.ordinal a.node (act_by a.answer) (act-by-length a.answer) (answered a.answer) in
-    record {
-      value = (printed a.at _ a.out.now answer.received.result answer.received.new.out short (omega arith)
-          (rw arm.in-Receive.is
-          (puts (ordinal.decimal-a.ensures.value, ordinal.decimal-a.ensures.out_after) then puts (act.put-b-in-Receive.ensures.value, act.put-b-in-Receive.ensures.out_after) then puts (node.decimal-c-in-Receive.ensures.value, node.decimal-c-in-Receive.ensures.out_after) then puts-all (answer.received.ensures.value, answer.received.ensures.out_after)))).0;
-      out_after = (printed a.at _ a.out.now answer.received.result answer.received.new.out short (omega arith)
-          (rw arm.in-Receive.is
-          (puts (ordinal.decimal-a.ensures.value, ordinal.decimal-a.ensures.out_after) then puts (act.put-b-in-Receive.ensures.value, act.put-b-in-Receive.ensures.out_after) then puts (node.decimal-c-in-Receive.ensures.value, node.decimal-c-in-Receive.ensures.out_after) then puts-all (answer.received.ensures.value, answer.received.ensures.out_after)))).1;
-    }
+    let rest = puts-as (ap (λ (r : Answer). ascii " " ++ answer_text (answered r)) (sym c.in-Receive.is)) (puts-all (c.received.ensures.value, c.received.ensures.out_after)) in
+    let w = printed a.at _ a.out.now _ _ short (sym c.has_room.ensures ∙ c.if-not-has_room.false) (ordinal-put p then act-put p then node-put p then rest) in
+    record { value = w.0; out_after = w.1 }

@@ -1,5 +1,5 @@
 -- `print_unread` meets its contract. Assumes nothing.
-use native.Mathlib.Omega.{arith}
+use mathlib.Core.Path.{sym, ◌∙◌}
 use Rattle.text.specs.Text.{ascii}
 use Rattle.step.specs.Step.{unread_text}
 use Rattle.text.proofs.WrittenTexts.{puts, ◌then◌}
@@ -7,26 +7,15 @@ use Rattle.step.proofs.PrintedRows.{printed, printed-not}
 use Rattle.step.proofs.Answers.{unread-length}
 use Rattle.step.proofs.print_unread.Goals as goal
 
-pub returns-then-out-lt-ROW_SPACE : goal.returns-then-out-lt-ROW_SPACE
-returns-then-out-lt-ROW_SPACE c = let a = c.args in
-    record {
-      value = (printed-not a.at _ a.out.now (omega arith)).0;
-      out_after = (printed-not a.at _ a.out.now (omega arith)).1;
-    }
-
-pub returns-then-out-at : goal.returns-then-out-at
-returns-then-out-at c = let a = c.args in
-    record {
-      value = (printed-not a.at _ a.out.now (omega arith)).0;
-      out_after = (printed-not a.at _ a.out.now (omega arith)).1;
-    }
+pub returns-then-not-has_room : goal.returns-then-not-has_room
+returns-then-not-has_room c =
+    let w = printed-not c.args.at _ c.args.out.now (sym c.has_room.ensures ∙ c.if-not-has_room.true) in
+    record { value = w.0; out_after = w.1 }
 
 pub returns : goal.returns
 unfolding unread_text ascii
 returns c =
-    let ordinal = c in
-    let a = ordinal.args in
-    record {
-      value = (printed a.at _ a.out.now _ _ (unread-length a.ordinal) (omega arith) (puts (ordinal.decimal-a.ensures.value, ordinal.decimal-a.ensures.out_after) then puts (c.put.ensures.value, c.put.ensures.out_after))).0;
-      out_after = (printed a.at _ a.out.now _ _ (unread-length a.ordinal) (omega arith) (puts (ordinal.decimal-a.ensures.value, ordinal.decimal-a.ensures.out_after) then puts (c.put.ensures.value, c.put.ensures.out_after))).1;
-    }
+    let ordinal = puts (c.decimal-a.ensures.value, c.decimal-a.ensures.out_after) in
+    let rest = puts (c.put.ensures.value, c.put.ensures.out_after) in
+    let w = printed c.args.at _ c.args.out.now _ _ (unread-length c.args.ordinal) (sym c.has_room.ensures ∙ c.if-not-has_room.false) (ordinal then rest) in
+    record { value = w.0; out_after = w.1 }

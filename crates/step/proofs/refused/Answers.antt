@@ -1,19 +1,17 @@
 -- `refused` meets its contract. Assumes nothing.
+use mathlib.Core.Path.{ap}
 use native.Mathlib.Omega.{arith}
 use Rattle.refusal.specs.Outcome.{refused}
-use Rattle.text.specs.Text.{ascii}
-use Rattle.text.proofs.WrittenTexts.{puts, ◌then◌}
+use Rattle.text.specs.Text.{ascii, decimal}
+use Rattle.text.proofs.WrittenTexts.{puts, puts-as, ◌then◌}
 use Rattle.step.proofs.Answers.{answer-wrote}
 use Rattle.step.proofs.refused.Goals as goal
 
 pub returns : goal.returns
 unfolding ascii
 returns c =
-    let last = c in
-    let reason = last in
-    let number = reason.number in
-    let word = reason in
-    record {
-      value = rw (← number.ensures) ((answer-wrote (refused number.result) (puts (word.put-a.ensures.value, word.put-a.ensures.out_after) then puts (reason.decimal-b.ensures.value, reason.decimal-b.ensures.out_after) then puts (last.put.ensures.value, last.put.ensures.out_after)) (omega arith)).0);
-      out_after = rw (← number.ensures) ((answer-wrote (refused number.result) (puts (word.put-a.ensures.value, word.put-a.ensures.out_after) then puts (reason.decimal-b.ensures.value, reason.decimal-b.ensures.out_after) then puts (last.put.ensures.value, last.put.ensures.out_after)) (omega arith)).1);
-    }
+    let word = puts (c.put-a.ensures.value, c.put-a.ensures.out_after) in
+    let number = puts-as (ap decimal c.from.ensures) (puts (c.decimal-b.ensures.value, c.decimal-b.ensures.out_after)) in
+    let last = puts (c.put.ensures.value, c.put.ensures.out_after) in
+    let w = answer-wrote (refused c.from-number.result) (word then number then last) (omega arith) in
+    record { value = rw (← c.from-number.ensures) w.0; out_after = rw (← c.from-number.ensures) w.1 }

@@ -1,11 +1,13 @@
 -- `print` meets its contract: with room for any rows, the names line and the rows are written one after the other. Assumes nothing.
 use mathlib.Core.Path.{◌≡◌, refl, sym, ap, ◌∙◌}
 use mathlib.Core.List.{List, ◌++◌}
-use Prim.Native.Nat.{ℕ, ◌+◌, ◌≤◌, ◌<◌}
+use Prim.Native.Nat.{ℕ, ◌+◌, ◌≤◌}
 use native.Mathlib.Omega.{arith}
+use lib.Dec.{leb}
+use mathlib.Core.Bool.{false}
 use lib.ListN.{length, length-append}
 use borrow.Author.Rules.{rules}
-use borrow.Author.Tests.{lt-leb}
+use borrow.Author.Tests.{leb-true}
 use Rattle.text.specs.Text.{ascii}
 use Rattle.text.proofs.WriteLaws.{length-written, end-with-room}
 use Rattle.text.proofs.WrittenTexts.{puts, puts-all, ◌then◌}
@@ -15,12 +17,12 @@ use Rattle.summary.proofs.print.Goals as goal
 use Rattle.summary.proofs.print.Goals.{After-put-start}
 
 -- without room nothing is printed
-no_room : (at : ℕ) (text out : List ℕ) → length out < at + summary_space → (at ≡ summary_end at text out) × (out ≡ summary_over at text out)
+no_room : (at : ℕ) (text out : List ℕ) → leb (at + summary_space) (length out) ≡ false → (at ≡ summary_end at text out) × (out ≡ summary_over at text out)
 unfolding summary_end summary_over summary_fits
-no_room at text out h = rw (lt-leb (at + summary_space) (length out) h) (refl, refl)
+no_room at text out h = rw h (refl, refl)
 
 room : (c : After-put-start) → c.args.at + summary_space ≤ length c.args.out.now
-room c = omega arith
+room c = leb-true _ _ (sym c.has_room.ensures ∙ c.if-not-has_room.false)
 
 -- what the names line leaves: where it ends, and the buffer's length
 named : (c : After-put-start) → (c.put-start.result ≡ c.args.at + 28) × (length c.put-start.new.out ≡ length c.args.out.now)
@@ -30,25 +32,15 @@ named c =
     let fits : a.at + 28 ≤ length a.out.now = omega (arith, room c) in
     (c.put-start.ensures.value ∙ end-with-room _ _ _ fits, ap length c.put-start.ensures.out_after ∙ length-written _ _ _)
 
-pub returns-then-out-lt-SPACE : goal.returns-then-out-lt-SPACE
-returns-then-out-lt-SPACE c = record {
-  value = (no_room _ _ _ (omega arith)).0;
-  out_after = (no_room _ _ _ (omega arith)).1;
-}
-
-pub returns-then-out-at : goal.returns-then-out-at
-returns-then-out-at c = record {
-  value = (no_room _ _ _ (omega arith)).0;
-  out_after = (no_room _ _ _ (omega arith)).1;
-}
+pub returns-then-not-has_room : goal.returns-then-not-has_room
+returns-then-not-has_room c =
+    let (l, o) = no_room _ _ _ (sym c.has_room.ensures ∙ c.if-not-has_room.true) in
+    record { value = l; out_after = o }
 
 pub rows-requires : goal.rows-requires
 rows-requires c =
     let p = c in
-    record {
-      records_len = search rules;
-      slots_in_bounds = omega (arith, (named (goal.at.rows-requires c).After-put-start).0, (named (goal.at.rows-requires c).After-put-start).1, room (goal.at.rows-requires c).After-put-start);
-    }
+    omega (arith, (named (goal.at.rows-requires c).After-put-start).0, (named (goal.at.rows-requires c).After-put-start).1, room (goal.at.rows-requires c).After-put-start)
 
 pub returns : goal.returns
 unfolding summary_text ascii

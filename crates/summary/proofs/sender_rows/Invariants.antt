@@ -1,12 +1,7 @@
 -- `sender_rows` meets its contract: each turn writes the row of one seq. Assumes nothing.
-use Prim.Native.Nat.{◌-◌, ◌≤◌}
-use Rattle.config.specs.Config.{slots}
 use Rattle.summary.specs.Summary.{shown_count}
 use Rattle.summary.proofs.LastRows.{sender_rows, Risen}
 use Rattle.summary.proofs.sender_rows.Given as goal
 
 abbrev pub invariant-loop-seq : goal.invariant-loop-seq
-invariant-loop-seq l = (l.seq ≤ slots) × Risen (sender_rows l.config (shown_count l.config l.records) l.sender) l.at l.initial.out l.seq l.end l.out
-
-abbrev pub decreases-loop-seq : goal.decreases-loop-seq
-decreases-loop-seq l = slots - l.seq
+invariant-loop-seq l = Risen (sender_rows l.config (shown_count l.config l.records) l.sender) l.at l.initial.out l.seq l.end l.out

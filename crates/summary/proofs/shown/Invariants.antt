@@ -2,7 +2,7 @@
 use mathlib.Core.Path.{◌≡◌}
 use mathlib.Core.Bool.{true, false}
 use mathlib.Core.List.{List}
-use Prim.Native.Nat.{ℕ, ◌-◌, ◌≤◌}
+use Prim.Native.Nat.{ℕ}
 use Rattle.signers.specs.Sets.{NodeSet, count}
 use Rattle.refusal.specs.Outcome.{after}
 use Rattle.config.specs.declared.Config.{Config}
@@ -16,7 +16,4 @@ abbrev pub shows : (config : Config) (sender seq : ℕ) (records : List ℕ) →
 shows config sender seq records node = after (delivered (with_own config node) (slot_of_day config sender seq) (records_at config node records)) (λ place. true) false
 
 abbrev pub invariant-loop-node : goal.invariant-loop-node
-invariant-loop-node l = (l.node ≤ l.n) × (l.count ≡ count (shows l.config l.sender l.seq l.records) l.node)
-
-abbrev pub decreases-loop-node : goal.decreases-loop-node
-decreases-loop-node l = l.n - l.node
+invariant-loop-node l = l.count ≡ count (shows l.config l.sender l.seq l.records) l.node

@@ -1,25 +1,18 @@
 -- `decimal` meets its contract. Assumes nothing.
 use mathlib.Core.Path.{sym, ◌∙◌}
-use native.Mathlib.Omega.{arith}
-use Rattle.text.proofs.WriteLaws.{written-not, end-not, written_of, end_of}
+use Prim.Native.Nat.{◌+◌, ◌≤◌, ◌<◌}
+use lib.ListN.{length}
+use borrow.Author.Tests.{leb-false, leb-true}
+use Rattle.text.specs.Text.{decimal}
+use Rattle.text.proofs.WriteLaws.{written-not, end-not, written_over, end_of}
 use Rattle.text.proofs.decimal.Goals as goal
 
-pub returns-then-out-at : goal.returns-then-out-at
-returns-then-out-at c = record {
-  value = sym (end-not _ _ _ (omega arith));
-  out_after = sym (written-not _ _ _ (omega arith));
-}
-
-pub returns-then-out-at-2 : goal.returns-then-out-at-2
-returns-then-out-at-2 c = record {
-  value = sym (end-not _ _ _ (omega arith));
-  out_after = sym (written-not _ _ _ (omega arith));
-}
+pub returns-then-not-has_room : goal.returns-then-not-has_room
+returns-then-not-has_room c =
+    let no : length c.args.out.now < c.args.at + length (decimal c.args.n) = rw (← c.digits-k.ensures) (leb-false _ _ (sym c.has_room.ensures ∙ c.if-not-has_room.true)) in
+    record { value = sym (end-not _ _ _ no); out_after = sym (written-not _ _ _ no) }
 
 pub returns : goal.returns
 returns c =
-    let long = c.digits-k.ensures in
-    record {
-      value = sym (end_of _ _ _ _ long (omega arith));
-      out_after = c.spell.ensures ∙ sym (written_of _ _ _ _ long (omega arith));
-    }
+    let room : c.args.at + c.digits-k.result ≤ length c.args.out.now = leb-true _ _ (sym c.has_room.ensures ∙ c.if-not-has_room.false) in
+    record { value = sym (end_of _ _ _ _ c.digits-k.ensures room); out_after = rw c.spell.ensures (written_over _ _ _ _ c.digits-k.ensures room) }

@@ -1,13 +1,11 @@
--- `digits` meets its contract: each turn counts the digit that it takes away. Assumes nothing.
-use native.Mathlib.Omega.{arith}
-use Rattle.text.proofs.DecimalDigits.{counted-one, counted-more, counted-all}
+-- `digits` meets its contract. Assumes nothing.
+use mathlib.Core.Path.{sym, ◌∙◌}
+use native.Mathlib.Numerals.{add-one}
+use Rattle.text.proofs.DecimalDigits.{decimal-count}
 use Rattle.text.proofs.digits.Goals as goal
 
-pub loop-rest-init : goal.loop-rest-init
-loop-rest-init c = counted-one _ (omega arith)
-
-pub loop-rest-preserved : goal.loop-rest-preserved
-loop-rest-preserved c = counted-more _ _ _ c.loop-rest-test.true c.loop-rest.invariant
-
 pub returns : goal.returns
-returns c = counted-all _ _ _ c.loop-rest-test.false c.loop-rest.invariant
+returns c =
+    let least = rw c.max.ensures at c.ilog10.ensures.power_le in
+    let less = rw c.max.ensures at c.ilog10.ensures.next_power_gt in
+    add-one _ ∙ sym (decimal-count _ _ least less c.ilog10.ensures.bound)

@@ -1,18 +1,29 @@
--- `find` meets its contract: the byte is not among the first i. Assumes nothing.
-use mathlib.Core.Path.{◌≡◌, sym}
+-- `find` meets its contract: `before` is the place of the first byte that passes, or the length. Assumes nothing.
+use Rattle.std.proofs.Common.{rules, ◌≡◌, ◌==◌, ℕ, ◌≤◌, List, Bool, true, false, cond, ltb, Some, None, refl, ◌∙◌}
 use native.Mathlib.Omega.{arith}
-use lib.ListN.{length}
-use Rattle.text.proofs.Fields.{found_here, not-here, not_there}
+use borrow.Author.Tests.{tests, ltb-false}
+use Rattle.std.specs.Option.{unwrap_or}
+use Rattle.std.proofs.lemmas.Iterator.{YieldsList-from_slice}
+use Rattle.std.proofs.lemmas.Iterator.Search.{position_from_yields_List}
+use Rattle.std.proofs.lemmas.List.Recursion.{is_position_or_len}
+use Rattle.std.specs.List.{position_or_len}
+use Rattle.text.specs.Text.{before}
+use Rattle.text.proofs.Fields.{before-le}
 use Rattle.text.proofs.find.Goals as goal
 
-pub returns-then-text-i : goal.returns-then-text-i
-returns-then-text-i c = sym (found_here _ _ _ c.loop-i.invariant.1 c.loop-i-test.true c.if-text-i.true)
+first-place : (b : ℕ) (xs : List ℕ) → before b xs ≡ position_or_len (λ x. x == b) xs
+unfolding before
+first-place b xs = is_position_or_len (before b) (λ x. x == b) refl (λ x ys. grind arith) xs
 
-pub loop-i-preserved : goal.loop-i-preserved
-loop-i-preserved c = (omega arith, not-here _ _ _ c.loop-i.invariant.1 c.loop-i-test.true c.if-text-i.false)
+place-or-length : (at n : ℕ) → at ≤ n → unwrap_or (cond (ltb at n) (Some at) None) n ≡ at
+place-or-length at n h = go (ltb at n) refl
+  where
+    go : (b : Bool) → ltb at n ≡ b → unwrap_or (cond b (Some at) None) n ≡ at
+    go true e = refl
+    go false e = omega (arith, ltb-false at n e)
 
 pub returns : goal.returns
 returns c =
-    let (low, none) = c.loop-i.invariant in
-    let all : c.loop-i.i ≡ length c.args.text.now = omega (arith, c.loop-i-test.false) in
-    sym (not_there _ _ _ none all)
+    let text = c.args.text.now in
+    let found = position_from_yields_List (λ x. x == c.args.byte) _ _ c.position.result c.position.ensures.ran (YieldsList-from_slice text cc) (λ x b q k. search (rules, tests)) in
+    c.unwrap_or.ensures ∙ rw (found, ← first-place c.args.byte text) (place-or-length _ _ (before-le c.args.byte text))

@@ -1,5 +1,5 @@
 -- `first_number` meets its contract: the first i bytes are digits, and write a number of at most the limit. Assumes nothing.
-use mathlib.Core.Path.{◌≡◌, refl, sym, ap, ◌∙◌}
+use mathlib.Core.Path.{◌≡◌, refl, sym, ap, ap₂, ◌∙◌}
 use mathlib.Core.Bool.{Bool, true, false, cond, and-eq-true_iff, true≢false}
 use mathlib.Core.List.{List}
 use Prim.Native.Nat.{ℕ, ◌+◌, ◌-◌, ◌*◌, ◌≤◌, ◌<◌}
@@ -8,29 +8,33 @@ use native.Mathlib.Omega.{arith}
 use lib.Dec.{leb}
 use lib.ListN.{length, get_or, take, drop}
 use lib.Seq.{take-add, get_or-take, length-take-le}
-use borrow.Author.Tests.{leb-true, le-leb}
-use Rattle.text.specs.declared.Number.TheVariants.{Plain, NotPlain}
+use borrow.Author.Tests.{leb-true, le-leb, ltb-true, eqb-true, eqb-false}
+use Rattle.std.specs.Prelude.{Option, Some, None}
 use Rattle.text.specs.Text.{before, space, first_field, only, digit, plain_number, plain_up_to, number_at}
 use Rattle.text.specs.Text as spec
 use Rattle.text.proofs.Fields.{found_here, not-here, not_there, before-le, first-length, only-says, only-more, plain-only}
 use Rattle.text.proofs.DigitValues.{digit-says, digit-holds, digit_value_lem, value-append, value-mono, value-more, plain-lead, plain-holds}
 use Rattle.text.proofs.first_number.Goals as goal
-use Rattle.text.proofs.first_number.Goals.{else-loop-i-test, then-loop-i-test+then-byte-eq32, then-i-gt1+else-text-eq48, else-i-gt1, At-loop-i, Else-byte-eq32, Else-byte-gt57, Left-loop-i}
+use Rattle.text.proofs.first_number.Goals.{else-loop-i-test, then-loop-i-test+then-byte-eq32, then-len-eq0-via-then-len-eq0, then-len-eq0-via-else-len-eq0+then-text-eq48, then-len-gt1, else-len-gt1, Else-byte-eq32, Else-not-is_ascii_digit, Left-loop-i}
+
+-- a number that was read, and where the next field starts
+abbrev number : ℕ → ℕ → Option (ℕ × ℕ)
+number value next = Some (value, next)
 
 module _ (limit : ℕ) (xs : List ℕ) where
   -- a field is refused if it is no plain number or writes one that is too large,
-  refused : (plain_number (first_field xs) ≡ true → spec.value 10 0 (first_field xs) ≤ limit → ⊥) → NotPlain ≡ number_at limit xs 0
+  refused : (plain_number (first_field xs) ≡ true → spec.value 10 0 (first_field xs) ≤ limit → ⊥) → None ≡ number_at limit xs 0
   unfolding number_at plain_up_to
   refused h = go (plain_up_to limit (first_field xs)) refl
     where
-      go : (t : Bool) → plain_up_to limit (first_field xs) ≡ t → NotPlain ≡ cond t (Plain (spec.value 10 0 (first_field xs)) (0 + length (first_field xs) + 1)) NotPlain
+      go : (t : Bool) → plain_up_to limit (first_field xs) ≡ t → None ≡ cond t (number (spec.value 10 0 (first_field xs)) (0 + length (first_field xs) + 1)) None
       go true e =
           let (is, small) = (and-eq-true_iff (plain_number (first_field xs)) (leb (spec.value 10 0 (first_field xs)) limit)).0 e in
           absurd (h is (leb-true (spec.value 10 0 (first_field xs)) limit small))
       go false e = refl
 
   -- so where a byte of it is no digit,
-  no_digit : (i : ℕ) → i < before space xs → (digit (get_or xs i 0) ≡ true → ⊥) → NotPlain ≡ number_at limit xs 0
+  no_digit : (i : ℕ) → i < before space xs → (digit (get_or xs i 0) ≡ true → ⊥) → None ≡ number_at limit xs 0
   unfolding first_field
   no_digit i h other =
       refused
@@ -39,7 +43,7 @@ module _ (limit : ℕ) (xs : List ℕ) where
       other (ap digit (sym (get_or-take (before space xs) xs i 0 h)) ∙ only-says digit (first_field xs) (plain-only (first_field xs) is) i inside))
 
   -- where the first i bytes write too much already,
-  too_large : (i : ℕ) → i ≤ before space xs → limit < spec.value 10 0 (take i xs) → NotPlain ≡ number_at limit xs 0
+  too_large : (i : ℕ) → i ≤ before space xs → limit < spec.value 10 0 (take i xs) → None ≡ number_at limit xs 0
   unfolding first_field
   too_large i h large =
       refused
@@ -50,12 +54,12 @@ module _ (limit : ℕ) (xs : List ℕ) where
       omega (arith, value-mono (spec.value 10 0 (take i xs)) (take (before space xs - i) (drop i xs))))
 
   -- where it is empty,
-  no_field : before space xs ≡ 0 → NotPlain ≡ number_at limit xs 0
+  no_field : before space xs ≡ 0 → None ≡ number_at limit xs 0
   unfolding first_field plain_number
   no_field e = refused (λ (is : plain_number (first_field xs) ≡ true) small. true≢false (sym is ∙ ap (λ (k : ℕ). plain_number (take k xs)) e))
 
   -- and where it begins with a zero that is not all of it
-  zero-first : 1 < before space xs → get_or xs 0 0 ≡ 48 → NotPlain ≡ number_at limit xs 0
+  zero-first : 1 < before space xs → get_or xs 0 0 ≡ 48 → None ≡ number_at limit xs 0
   unfolding first_field spec.digit_value
   zero-first h e =
       refused
@@ -66,7 +70,7 @@ module _ (limit : ℕ) (xs : List ℕ) where
 
   -- any other is taken
   taken : (i : ℕ) → before space xs ≡ i → 0 < i → only digit (take i xs) ≡ true → (1 < i → get_or xs 0 0 ≡ 48 → ⊥) → spec.value 10 0 (take i xs) ≤ limit
-      → Plain (spec.value 10 0 (take i xs)) (i + 1) ≡ number_at limit xs 0
+      → number (spec.value 10 0 (take i xs)) (i + 1) ≡ number_at limit xs 0
   unfolding number_at plain_up_to first_field
   taken i e pos digits other small =
       let count : length (take i xs) ≡ i = length-take-le i xs (omega (arith, before-le space xs)) in
@@ -75,64 +79,73 @@ module _ (limit : ℕ) (xs : List ℕ) where
 
 pub loop-i-init : goal.loop-i-init
 unfolding only spec.value
-loop-i-init c = (omega arith, sym (zero-add _), refl, refl, omega arith)
+loop-i-init c = (sym (zero-add _), refl, refl, omega arith, refl)
 
 -- a byte that is no space is in the field
 inside : (c : Else-byte-eq32) → c.loop-i.i < before space c.args.text.now
 inside c =
     omega
-    (arith, not-here space c.args.text.now c.loop-i.i c.loop-i.invariant.1 c.loop-i-test.true c.if-byte-eq32.false)
+    (arith, not-here space c.args.text.now c.loop-i.i c.loop-i.invariant.0 c.loop-i-test.true c.if-byte-eq32.false)
 
-pub returns-then-byte-lt48 : goal.returns-then-byte-lt48
-returns-then-byte-lt48 c = no_digit _ _ _ (inside (goal.at.returns-then-byte-lt48 c).Else-byte-eq32) (λ e. let (low, high) = digit-says _ e in omega (arith, c.if-byte-lt48.true))
-
-pub returns-then-byte-gt57 : goal.returns-then-byte-gt57
-returns-then-byte-gt57 c = no_digit _ _ _ (inside (goal.at.returns-then-byte-gt57 c).Else-byte-eq32) (λ e. let (low, high) = digit-says _ e in omega (arith, c.if-byte-gt57.true))
+pub returns-then-not-is_ascii_digit : goal.returns-then-not-is_ascii_digit
+returns-then-not-is_ascii_digit c =
+    no_digit _ _ _ (inside (goal.at.returns-then-not-is_ascii_digit c).Else-byte-eq32)
+    (λ e. let (low, high) = digit-says _ e in omega (arith, c.if-not-is_ascii_digit.ensures.cases))
 
 -- a digit is read
-read-on : (c : Else-byte-gt57)
+read-on : (c : Else-not-is_ascii_digit)
     → c.loop-i.value * 10 + (get_or c.args.text.now c.loop-i.i 0 - 48)
     ≡ spec.value 10 0 (take (c.loop-i.i + 1) c.args.text.now)
 read-on c =
-    let at = c in
-    let xs = at.args.text.now in
-    let i = at.loop-i.i in
-    let digit-is : spec.digit_value (get_or xs i 0) ≡ get_or xs i 0 - 48 = digit_value_lem _ c.if-byte-gt57.false in
-    let same : at.loop-i.value ≡ spec.value 10 0 (take i xs) = at.loop-i.invariant.3 in
+    let xs = c.args.text.now in
+    let i = c.loop-i.i in
+    let digit-is : spec.digit_value (get_or xs i 0) ≡ get_or xs i 0 - 48 = digit_value_lem _ c.if-not-is_ascii_digit.ensures.cases.1 in
+    let same : c.loop-i.value ≡ spec.value 10 0 (take i xs) = c.loop-i.invariant.2 in
     omega (arith, value-more 10 xs i c.loop-i-test.true)
 
-pub returns-then-limit-value : goal.returns-then-limit-value
-returns-then-limit-value c =
-    let at = c in
-    let field : at.loop-i.i < before space at.args.text.now = inside (goal.at.returns-then-limit-value c).Else-byte-eq32 in
-    too_large _ _ (at.loop-i.i + 1) (omega arith) (rw (read-on (goal.at.returns-then-limit-value c).Else-byte-gt57) at c.if-limit-value.true)
+pub returns-then-from-value : goal.returns-then-from-value
+returns-then-from-value c =
+    let field : c.loop-i.i < before space c.args.text.now = inside (goal.at.returns-then-from-value c).Else-byte-eq32 in
+    let read = read-on (goal.at.returns-then-from-value c).Else-not-is_ascii_digit in
+    too_large _ _ (c.loop-i.i + 1) (omega arith) (omega (arith, c.from.ensures, c.from-in-loop-i.ensures, c.if-from-value.true))
 
 pub loop-i-preserved : goal.loop-i-preserved
 loop-i-preserved c =
-    let at = c in
-    let h = c.loop-i-test.true in
-    (omega arith, not-here _ _ _ at.loop-i.invariant.1 h c.if-byte-eq32.false, only-more digit _ _ h (digit-holds _ c.if-byte-lt48.false c.if-byte-gt57.false) at.loop-i.invariant.2, read-on (goal.at.loop-i-preserved c).Else-byte-gt57, c.if-limit-value.false)
+    let h = c.loop-i-test.true in (
+      not-here _ _ _ c.loop-i.invariant.0 h c.if-byte-eq32.false,
+      only-more digit _ _ h (digit-holds _ c.if-not-is_ascii_digit.ensures.cases.0 c.if-not-is_ascii_digit.ensures.cases.1) c.loop-i.invariant.1,
+      rw c.from.ensures (read-on (goal.at.loop-i-preserved c).Else-not-is_ascii_digit),
+      omega (arith, c.if-from-value.false),
+      c.loop-i.invariant.4,
+    )
 
--- after the loop, i is where the field ends
-ended : (c : Left-loop-i) → before space c.args.text.now ≡ c.loop-i.i
+-- after the loop, `len` is where the field ends, and i too
+ended : (c : Left-loop-i) → (before space c.args.text.now ≡ c.loop-i-test.len) × (c.loop-i-test.len ≡ c.loop-i.i)
 ended c =
+    let n : ℕ = length c.args.text.now in
     elim c.loop-i-test.branch [
-      | else-loop-i-test w ↦ not_there _ _ _ c.loop-i.invariant.1 (omega arith)
-      | then-loop-i-test+then-byte-eq32 w ↦ found_here _ _ _ c.loop-i.invariant.1 w.loop-i-test.true w.if-byte-eq32.true
+      | else-loop-i-test w ↦ let all : c.loop-i.i ≡ n = omega arith in (not_there _ _ _ c.loop-i.invariant.0 all ∙ all ∙ sym c.loop-i.invariant.4 ∙ sym w.len-is, w.len-is ∙ c.loop-i.invariant.4 ∙ sym all)
+      | then-loop-i-test+then-byte-eq32 w ↦ (found_here _ _ _ c.loop-i.invariant.0 w.loop-i-test.true w.if-byte-eq32.true ∙ sym w.len-is, w.len-is)
     ]
 
-pub returns-then-i-eq0 : goal.returns-then-i-eq0
-returns-then-i-eq0 c = no_field _ _ (ended (goal.at.returns-then-i-eq0 c).Left-loop-i ∙ c.if-i-eq0.true)
-
-pub returns-then-text-eq48 : goal.returns-then-text-eq48
-returns-then-text-eq48 c = zero-first _ _ (omega (arith, ended (goal.at.returns-then-text-eq48 c).Left-loop-i)) c.if-text-eq48.true
+pub returns-then-len-eq0 : goal.returns-then-len-eq0
+returns-then-len-eq0 c =
+    let (end, same) = ended (goal.at.returns-then-len-eq0 c).Left-loop-i in
+    elim c.then-len-eq0.branch [
+      | then-len-eq0-via-then-len-eq0 w ↦ no_field _ _ (end ∙ w.if-len-eq0.true)
+      | then-len-eq0-via-else-len-eq0+then-text-eq48 w ↦
+          elim w.if-len-gt1.branch [
+            | then-len-gt1 v ↦ zero-first _ _ (omega arith) (eqb-true _ _ (sym v.value-is ∙ w.if-text-eq48.true))
+            | else-len-gt1 v ↦ absurd (omega (arith, ltb-true _ _ (sym v.value-is ∙ w.if-text-eq48.true)))
+          ]
+    ]
 
 pub returns : goal.returns
 returns c =
-    let at = c in
-    let xs = at.args.text.now in
-    let i = at.loop-i.i in
-    let (low, none, digits, same, small) = at.loop-i.invariant in
-    let other : 1 < i → get_or xs 0 0 ≡ 48 → ⊥ =
-    elim c.if-i-gt1.branch [ then-i-gt1+else-text-eq48 w ↦ λ h. w.if-text-eq48.false | else-i-gt1 w ↦ λ h. absurd (omega (arith, w.if-i-gt1.false)) ] in
-    ap (λ (v : ℕ). Plain v (i + 1)) same ∙ taken _ xs i (ended (goal.at.returns c).Left-loop-i) (omega arith) digits other (omega arith)
+    let xs = c.args.text.now in
+    let (none, digits, read, small, all) = c.loop-i.invariant in
+    let (end, same) = ended (goal.at.returns c).Left-loop-i in
+    let other : 1 < c.loop-i-test.len → get_or xs 0 0 ≡ 48 → ⊥ =
+    elim c.if-len-gt1.branch [ then-len-gt1 w ↦ λ h. eqb-false _ _ (sym w.value-is ∙ c.if-text-eq48.false) | else-len-gt1 w ↦ λ h. absurd (omega (arith, w.if-len-gt1.false)) ] in
+    ap₂ number read (ap (λ (k : ℕ). k + 1) same)
+    ∙ taken _ xs c.loop-i.i (end ∙ same) (omega arith) digits (rw same at other) (omega arith)

@@ -5,4 +5,4 @@ use Rattle.config.proofs.Slot.place.Goals as goal
 
 pub returns : goal.returns
 unfolding slot_place
-returns c = omega arith
+returns c = rw (c.from.ensures, c.from-2.ensures, c.from-3.ensures) (omega arith)
