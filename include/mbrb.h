@@ -240,8 +240,8 @@
  *
  *   - Memory: MBRB_RECORDS_SIZE(n) bytes of records, which the host gives. The library allocates nothing and keeps no
  *     data of its own.
- *   - Stack: 92 bytes for mbrb_broadcast, 121 for mbrb_receive, 101 for mbrb_preview, 40 for mbrb_open, 236 for
- *     mbrb_setpoint, 313 for mbrb_equivocators, 217 for mbrb_check_equivocators, whatever they are given; and below
+ *   - Stack: 92 bytes for mbrb_broadcast, 121 for mbrb_receive, 101 for mbrb_preview, 24 for mbrb_open, 236 for
+ *     mbrb_setpoint, 313 for mbrb_equivocators, 169 for mbrb_check_equivocators, whatever they are given; and below
  *     mbrb_open what the host's memset takes. Besides, up to 48 bytes of arguments that the caller puts there. Each
  *     figure is the deepest chain of frames in the machine code, return addresses included: tests/call_graph adds them
  *     up, and tests/footprint sees the same on a stack that was painted before.
@@ -249,8 +249,8 @@
  *     another. All are called by name, none by a pointer. tests/call_graph looks at the whole call graph, that of the
  *     program which is proved and that of the machine code. The memset below mbrb_open is the host's, and not looked
  *     into.
- *   - Code: 1,648 bytes for mbrb_open and mbrb_receive, 689 more where mbrb_broadcast is used, 1,247 more where
- *     mbrb_preview is, 890 more where mbrb_setpoint is, and 2,517 more where mbrb_equivocators or
+ *   - Code: 1,622 bytes for mbrb_open and mbrb_receive, 689 more where mbrb_broadcast is used, 1,247 more where
+ *     mbrb_preview is, 890 more where mbrb_setpoint is, and 2,485 more where mbrb_equivocators or
  *     mbrb_check_equivocators is: there are four more members in the library, and a host that calls nothing of one does
  *     not link it. The one symbol that the library takes from the host is memset, for mbrb_open.
  *   - Registers: no floating-point register is used, and of the vector registers xmm0 alone, by mbrb_broadcast and

@@ -64,20 +64,12 @@ impl<'a> Day<'a> {
         record::load(&self.records[start..start + config::RECORD_SIZE])
     }
 
-    // Whether all records are well-formed. A good configuration has no more than 64 nodes; the compiler learns it by
-    // the test, since this function is not joined to its callers, and leaves out a test of the sender for each record.
+    // Whether all records are well-formed.
+    #[inline(always)]
     pub fn all_well_formed(self) -> bool
         ensures { result ≡ all_well_formed self.entry.config self.entry.records.now }
     {
-        if 64 < self.config.n {
-            return false;
-        }
-        for sender in 0..self.config.n {
-            if !self.sender_well_formed(sender) {
-                return false;
-            }
-        }
-        true
+        records_well_formed(self.config, self.records)
     }
 
     // Whether the sixteen of a sender are.
@@ -92,4 +84,25 @@ impl<'a> Day<'a> {
         }
         true
     }
+}
+
+// The same of a day by its parts, which are passed in registers: a day lies in 32 bytes of its caller's stack for each
+// call. A good configuration has no more than 64 nodes; the compiler learns it by the test, since this function is not
+// joined to its callers, and leaves out a test of the sender for each record.
+#[inline(never)]
+fn records_well_formed(config: Config, records: &[u8]) -> bool
+    requires config_value { good config ≡ true }
+    requires records_len { length records.now ≡ records_size config }
+    ensures { result ≡ all_well_formed config records.now }
+{
+    if 64 < config.n {
+        return false;
+    }
+    let day = Day { config, records };
+    for sender in 0..config.n {
+        if !day.sender_well_formed(sender) {
+            return false;
+        }
+    }
+    true
 }

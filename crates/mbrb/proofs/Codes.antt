@@ -10,7 +10,7 @@ use lib.Dec.{ltb}
 use lib.ListN.{length, replicate}
 use borrow.Author.Tests.{ltb-true}
 use Rattle.octets.specs.Octets.{blank}
-use Rattle.refusal.specs.Outcome.{Outcome, refused, done, after, checked, ◌and_then◌}
+use Rattle.refusal.specs.Outcome.{Outcome, refused, done, plain, after, checked, ◌and_then◌}
 use Rattle.refusal.proofs.Reasons.{done-clear, Comes, unless-comes, then-comes}
 use Rattle.config.specs.declared.Config.{Config}
 use Rattle.config.specs.Config.{quorum, slots}
@@ -32,6 +32,14 @@ reported_received (refused number) = refl
 reported_received (done result) = refl
 
 -- ---- opening
+
+-- the records afterwards have no part in the code
+without-records : {A : Type 0} (outcome : Outcome A) → opened_code (plain outcome) ≡ opened_code outcome
+without-records (refused number) = refl
+without-records (done zeros) = refl
+
+pub plain-opened : (config : Config) (records : List ℕ) → opened_code (plain (opened config records)) ≡ opened_code (opened config records)
+plain-opened config records = without-records (opened config records)
 
 opened-listed : {A : Type 0} (outcome : Outcome A) → Comes (listed open_codes) (λ _. Unit) outcome → listed open_codes (opened_code outcome) ≡ true
 unfolding listed open_codes

@@ -1,7 +1,9 @@
-// The C interface: opening a day and receiving through numbers and byte slices, with one code for an answer.
+// The C interface: opening a day and receiving, exported to C.
 //
 // include/mbrb.h declares the functions for C and C++, with those of crates mbrb_broadcast, mbrb_preview, mbrb_setpoint
-// and mbrb_equivocators. A slice passes as a pointer and a length; what the host must see to there is in that file.
+// and mbrb_equivocators. A slice passes as a pointer and a length; what the host must see to there is in that file. Each
+// function is that of crate mbrb with the very same clauses: no crate can use a static library, so a caller in Rattle
+// has those of mbrb.
 #![tactic(auto)]
 
 ghost use Rattle.std.specs.Prelude.{◌≡◌};
@@ -9,8 +11,6 @@ ghost use Rattle.config.specs.Config.{config_of};
 ghost use Rattle.calls.specs.Open.{opened, open_records};
 ghost use Rattle.calls.specs.Receive.{receive, receive_records, receive_out};
 ghost use Rattle.mbrb.specs.Code.{opened_code, received_code};
-
-use config::Config;
 
 // Opens the day: makes every record empty. The code is 0, or the refusal's number.
 #[unsafe(no_mangle)]
@@ -26,12 +26,11 @@ pub extern "C" fn mbrb_open(
     ensures value { result ≡ opened_code (opened (config_of n t d own day quorum) records.old) }
     ensures records_after { records.new ≡ open_records (config_of n t d own day quorum) records.old }
 {
-    mbrb::verdict_code(calls::open(Config::new(n, t, d, own, day, quorum), records))
+    mbrb::mbrb_open(n, t, d, own, day, quorum, records)
 }
 
 // Receives a bundle. The code is 100 for kept, 101 for signed, 102 for delivered, 103 for noted, or the refusal's
 // number.
-#[tactic(auto, using(mbrb::proofs::Codes::reported_received))]
 #[unsafe(no_mangle)]
 pub extern "C" fn mbrb_receive(
     n: u8,
@@ -48,6 +47,5 @@ pub extern "C" fn mbrb_receive(
     ensures records_after { records.new ≡ receive_records (config_of n t d own day quorum) bundle.now records.old out.old }
     ensures out_after { out.new ≡ receive_out (config_of n t d own day quorum) bundle.now records.old out.old }
 {
-    let config = Config::new(n, t, d, own, day, quorum);
-    mbrb::receipt_code(calls::receive(config, bundle, records, out))
+    mbrb::mbrb_receive(n, t, d, own, day, quorum, bundle, records, out)
 }

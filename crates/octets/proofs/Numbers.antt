@@ -2,7 +2,7 @@
 -- Assumes nothing.
 use mathlib.Core.Path.{◌≡◌, refl, sym, ap, ap₂, ◌∙◌, subst}
 use mathlib.Core.Bool.{Bool, true, false, and-eq-true_iff}
-use mathlib.Core.List.{List, [], ◌∷◌, ◌++◌}
+use mathlib.Core.List.{List, [], ◌∷◌, ◌++◌, reverse, reverse-cons}
 use Prim.Native.Nat.{ℕ, zero, suc, ◌+◌, ◌*◌, ◌/◌, ◌%◌, ◌^◌, ◌≤◌, ◌<◌}
 use native.Mathlib.Nat.{zero-add, suc-add, one-le-pow, pow-succ', mul_comm, mul_assoc, add-mul, add_assoc, div-div-eq-div-mul, mod-lt, mod-eq_of_lt, zero-mul, mul-add-div_right, mul-add-mod_self_right}
 use native.Mathlib.Omega.{arith}
@@ -35,11 +35,20 @@ bytes-test [] e i = lit< tt
 bytes-test (x ∷ xs) e zero = ltb-true x 256 ((and-eq-true_iff (ltb x 256) (are_bytes xs)).0 e).0
 bytes-test (x ∷ xs) e (suc i) = bytes-test xs ((and-eq-true_iff (ltb x 256) (are_bytes xs)).0 e).1 i
 
--- lists of bytes, joined and cut
+-- lists of bytes, joined, turned round and cut
 pub bytes-append : (xs ys : List ℕ) → Bytes xs → Bytes ys → Bytes (xs ++ ys)
 bytes-append [] ys h k i = k i
 bytes-append (x ∷ xs) ys h k zero = h 0
 bytes-append (x ∷ xs) ys h k (suc i) = bytes-append xs ys (λ j. h (suc j)) k i
+
+bytes_one : (x : ℕ) → x < 256 → Bytes (x ∷ [])
+bytes_one x h zero = h
+bytes_one x h (suc i) = lit< tt
+
+pub bytes-reverse : (xs : List ℕ) → Bytes xs → Bytes (reverse xs)
+bytes-reverse [] h = h
+bytes-reverse (x ∷ xs) h =
+    rw reverse-cons (bytes-append (reverse xs) (x ∷ []) (bytes-reverse xs (λ i. h (suc i))) (bytes_one x (h 0)))
 
 pub bytes-part : (i k : ℕ) (xs : List ℕ) → Bytes xs → Bytes (part i k xs)
 bytes-part i k xs h n = go (ltb n k) refl

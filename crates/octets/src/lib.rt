@@ -44,5 +44,7 @@ pub fn fill(bytes: &mut [u8], a: u64, b: u64, c: u64, d: u64)
 pub fn clear(bytes: &mut [u8])
     ensures { bytes.new ≡ replicate (length bytes.old) 0 }
 {
-    bytes.fill(0);
+    for byte in bytes.iter_mut() {
+        *byte = 0;
+    }
 }

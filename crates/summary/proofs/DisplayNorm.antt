@@ -138,14 +138,14 @@ nearest-is-percent n delivered p some near =
 -- ---- the whole part, or the number above it
 
 module _ (n delivered hundredths : ℕ) (some : 0 < n) (counted : hundredths ≡ 100 * delivered) where
-  whole-nearest : 2 * (hundredths % n) ≤ n → (2 * (hundredths % n) ≡ n → hundredths / n % 2 ≡ 0) → Nearest n delivered (hundredths / n)
+  pub whole-nearest : 2 * (hundredths % n) ≤ n → (2 * (hundredths % n) ≡ n → hundredths / n % 2 ≡ 0) → Nearest n delivered (hundredths / n)
   unfolding distance
   whole-nearest low half =
       let parts = div-add-mod' hundredths n in
       let off : twice_off n delivered (hundredths / n) ≡ 2 * (hundredths % n) = omega arith in
       record { close = omega arith; half-even = λ e. half (sym off ∙ e) }
 
-  next-nearest : n ≤ 2 * (hundredths % n) → (2 * (hundredths % n) ≡ n → hundredths / n % 2 ≡ 1) → Nearest n delivered (suc (hundredths / n))
+  pub next-nearest : n ≤ 2 * (hundredths % n) → (2 * (hundredths % n) ≡ n → hundredths / n % 2 ≡ 1) → Nearest n delivered (suc (hundredths / n))
   unfolding distance
   next-nearest high half =
       let parts = div-add-mod' hundredths n in
